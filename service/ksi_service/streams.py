@@ -16,11 +16,12 @@ import re
 import secrets
 import subprocess
 import sys
+import threading
 import time
 
 from . import files
 from .forget import Left
-from .node import FIRST_PAUSE, MOST_VAIN_STARTS, GivenUp, LostFacts
+from .node import FIRST_PAUSE, MOST_VAIN_STARTS, SILENT_SECONDS, GivenUp, LostFacts
 from .programs import Missing as MissingProgram
 from .programs import program
 from .proved import Refused
@@ -75,10 +76,25 @@ class Ended(Exception):
 class Process:
     """The process of a node, and its blocks."""
 
-    def __init__(self, words):
+    def __init__(self, words, say=lambda text: None):
         self.child = subprocess.Popen(words, stdin=subprocess.PIPE, stdout=subprocess.PIPE, stderr=subprocess.DEVNULL)
+        self.say, self.ended = say, threading.Event()
+        self.owed, self.heard = 0, 0
+        """How many blocks it owes for lines, or its end; and how many there were."""
+        threading.Thread(target=self.watch, daemon=True).start()
+
+    def watch(self):
+        """Kills the process if it is silent, as one that is stopped, or whose disk does not return."""
+        owed, heard = 0, 0
+        while not self.ended.wait(SILENT_SECONDS):
+            if owed and heard == self.heard:
+                self.say("is silent, and is killed")
+                self.child.kill()
+            owed, heard = self.owed, self.heard
 
     def give(self, lines):
+        lines = list(lines)
+        self.owed += len(lines)
         try:
             self.child.stdin.write("".join(f"{it}\n" for it in lines).encode())
             self.child.stdin.flush()
@@ -91,16 +107,19 @@ class Process:
             if not row.endswith(b"\n"):
                 raise Ended(" ".join(rows))
             rows.append(row[:-1].decode("ascii", "replace"))
+        self.owed, self.heard = max(0, self.owed - 1), self.heard + 1
         return rows
 
     def end(self):
         """Ends the input; what was not taken of it is gone with the process."""
+        self.owed += 1
         try:
             self.child.stdin.close()
         except OSError:
             pass
         self.child.stdout.close()
         self.child.wait()
+        self.ended.set()
 
 
 class NodeHost:
@@ -149,7 +168,7 @@ class NodeHost:
         # the name of a file of which rounds were forgotten, before a node adds to it
         files.sync_folder(self.folder)
         files.drop_cache(os.path.join(*words[-2:]))
-        self.process = Process(words)
+        self.process = Process(words, lambda text: self.say(f"{self.name} {text}"))
         try:
             self.begin(self.process.block())
             while not self.is_to_forget(lines := self.lines()):

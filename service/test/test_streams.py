@@ -8,6 +8,7 @@ import socket
 import subprocess
 import sys
 import tempfile
+import threading
 import time
 import unittest
 from unittest import mock
@@ -168,6 +169,27 @@ class TransactionTest(unittest.TestCase):
         # the connection is lost while it is watched, and while it is asked what was done
         self.assertEqual(self.committed(None, lost, None, changed, None, None, None), (2, 1))
         self.assertEqual(self.committed(changed, lost, changed), (1, 2))
+
+
+class SilentTest(unittest.TestCase):
+    def test_a_process_that_is_silent_about_a_line_is_killed_and_one_that_is_asked_nothing_is_not(self):
+        said = []
+        with tempfile.TemporaryDirectory(prefix="ksi-test-") as room, mock.patch.object(streams, "SILENT_SECONDS", 0.3):
+            process = streams.Process([sys.executable, os.path.join(stands.HERE, "fake_node.py"), os.path.join(room, "facts")], said.append)
+            threading.Timer(10, process.child.kill).start()
+            process.block()
+            time.sleep(1)
+            process.give(["tell 5", "hang"])
+            self.assertEqual((process.block(), said), (["answer done"], []))
+            self.assertRaises(streams.Ended, process.block)
+            process.end()
+        self.assertEqual((said, process.child.returncode), (["is silent, and is killed"], -signal.SIGKILL))
+
+    def test_a_process_that_does_not_end_is_killed(self):
+        with mock.patch.object(streams, "SILENT_SECONDS", 0.3):
+            process = streams.Process(["sleep", "10"])
+            process.end()
+        self.assertEqual(process.child.returncode, -signal.SIGKILL)
 
 
 class BeginTest(unittest.TestCase):
