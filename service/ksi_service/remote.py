@@ -30,12 +30,18 @@ class RemoteNode:
     def __init__(self, name, network):
         self.name, self.network = name, network
         self.alive, self.restarts, self.refused, self.process = False, 0, 0, None
+        self.run = None
+        """Which run of its host is there, or None."""
 
     def send(self, line):
         if self.alive:
             self.network.put(self.name, line)
         else:
             line.fail(self.name)
+
+    def come(self, run):
+        """It has taken all that waited for it, if that is the run which is there now."""
+        self.alive = run == self.run
 
     async def ask(self, text):
         line = Line(text)
@@ -176,10 +182,8 @@ class RemoteNetwork:
     def take(self, found, there):
         """What the reader has found: entries of logs, answers, and who is there."""
         for node, run in zip(self.nodes.values(), there or []):
-            if node.alive and not run:
-                self.say(f"{node.name} is away")
-                self.give_up(node)
-            node.alive = bool(run)
+            if run != node.run:
+                self.changed(node, run)
         for stream, entries in found:
             _, kind, name = stream.split(":")
             for number, fields in entries:
@@ -191,6 +195,18 @@ class RemoteNetwork:
             self.stand(name, number, fields)
         self.moved.set()
         self.moved = asyncio.Event()
+
+    def changed(self, node, run):
+        """Takes it that another run of a node's host is there, or none. It is up once it answers a question, which stands behind all that
+        waited for it."""
+        if node.alive:
+            self.say(f"{node.name} is away")
+        self.give_up(node)
+        node.alive, node.run = False, run
+        if run:
+            line = Line(f"held {self.plan.start} 1" if node.name[0] == "c" else "sign 0")
+            line.answer.add_done_callback(lambda answer: answer.exception() or node.come(run))
+            self.put(node.name, line)
 
     async def forget(self, aggregator, before):
         """Lets an aggregator's host forget rounds of seconds before this one. Returns how many facts are left, and how many there were."""

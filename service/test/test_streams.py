@@ -110,6 +110,32 @@ class AwayTest(unittest.TestCase):
         self.assertEqual(said, ["the server is away: gone"] * 2)
 
 
+class ComingTest(unittest.TestCase):
+    def test_a_node_is_up_once_it_has_taken_what_waited_for_it(self):
+        """All would wait for what it is sent meanwhile: after an hour away, longer than a request waits."""
+        async def go(folder):
+            network, ups = remote.RemoteNetwork(folder, Plan(1, 5, ("c0",)), ""), []
+
+            async def take(found, *there):
+                network.take(found, there)
+                await network.record.flush()
+                ups.append([node.alive for node in network.nodes.values()])
+            await take([], "one", "two")
+            asks = [network.to_send.get_nowait() for _ in network.nodes]
+            await take([], "one", "two")
+            await take([(f"ksi:said:{name}", [("1-0", {"ask": ask, "said": ""})]) for name, _, ask in asks], "one", "two")
+            await take([], None, "another")
+            await take([], "one", None)
+            asks += [network.to_send.get_nowait() for _ in network.nodes]
+            await take([(f"ksi:said:{name}", [("2-0", {"ask": ask, "said": ""})]) for name, _, ask in asks], "one", None)
+            await network.record.close()
+            return [it[:2] for it in asks], ups, network.to_send.empty()
+        with tempfile.TemporaryDirectory(prefix="ksi-test-") as folder:
+            asks, ups, is_all = asyncio.run(go(folder))
+        self.assertEqual(asks, [("c0", "held 5 1"), ("a0", "sign 0"), ("a0", "sign 0"), ("c0", "held 5 1")])
+        self.assertEqual((ups, is_all), ([[False, False]] * 2 + [[True, True]] + [[False, False]] * 2 + [[True, False]], True))
+
+
 class Client:
     """A client of a server and its pipeline, whose calls fail as they are told, one after the other; None lets one pass."""
 
