@@ -304,15 +304,19 @@ class NodeHost:
 
     def transact(self, fill, serial, look):
         """A transaction that fails if another one of this host comes between: one whose connection was lost may still be on its way. The
-        client calls a connection that is lost meanwhile a change of what is watched, too."""
+        client calls a connection that is lost meanwhile a change of what is watched, too. But for the first one, the last transaction has
+        to be this host's: a node that ran twice would vote twice."""
         import redis
         done = f"ksi:done:{self.name}"
         with self.client.pipeline(transaction=True) as commit:
             while True:
                 try:
                     commit.watch(done)
-                    if look and commit.get(done) == serial:
+                    last = commit.get(done) if look or self.serial > 1 else None
+                    if look and last == serial:
                         return
+                    if self.serial > 1 and (last or "").split(" ")[0] != self.run_id:
+                        raise LostFacts(f"another host runs {self.name} by now, or the server lost what it was told")
                     commit.multi()
                     fill(commit)
                     commit.set(f"ksi:facts:{self.name}", self.facts if self.before is None else f"{self.facts} {self.before}")

@@ -15,6 +15,7 @@ from unittest import mock
 
 import stands
 from ksi_service import remote, streams
+from ksi_service.node import LostFacts
 from ksi_service.plan import Plan
 from ksi_service.record import Signed, last_state, told
 from streamed import NODES, PYTHON, WHY, Streamed
@@ -195,6 +196,19 @@ class TransactionTest(unittest.TestCase):
         # the connection is lost while it is watched, and while it is asked what was done
         self.assertEqual(self.committed(None, lost, None, changed, None, None, None), (2, 1))
         self.assertEqual(self.committed(changed, lost, changed), (1, 2))
+
+
+    def test_a_host_ends_where_another_one_runs_its_node_by_now(self):
+        """As one whose machine was off the network, and was replaced by another with a copy of its files."""
+        client, nothing = Client([]), lambda commit: None
+        with mock.patch.dict(sys.modules, redis=client), mock.patch.object(streams, "connect", lambda url: client):
+            host = streams.NodeHost("", "", "c0")
+            for client.done in (None, f"{host.run_id} 1"):
+                host.commit(nothing)
+            client.done = "another 1"
+            with self.assertRaisesRegex(LostFacts, "another host runs c0"):
+                host.commit(nothing)
+        self.assertEqual(client.filled, 2)
 
 
 class SilentTest(unittest.TestCase):
