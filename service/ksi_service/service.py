@@ -31,7 +31,9 @@ ANSWER_SECONDS = 60
 LAST_SECONDS = 5
 """How long a service that is told to stop still waits for requests that it has taken, and then for its last publication."""
 OTHER_FILES = MOST_ACCEPTED + 1024
-"""How many files may be open beside the connections that are served."""
+"""How many files may be open beside the connections that are served, and beside those of nodes."""
+FILES_OF_NODE = 3
+"""Two pipes, and the number of its process."""
 MOST_EXTENDING, MOST_TO_EXTEND = 4, 64
 """How many signatures are extended at once, and how many may wait for it."""
 
@@ -234,14 +236,15 @@ class Service:
             task.result()
 
 
-def open_files(most):
+def open_files(most, nodes):
     """Lets the process have so many connections open, or as many as it may. Returns how many. Beside them there is room for those that
     are accepted at once, for nodes and for the record: a host that could not open its record would end."""
     soft, hard = resource.getrlimit(resource.RLIMIT_NOFILE)
-    wanted = most + OTHER_FILES if hard == resource.RLIM_INFINITY else min(most + OTHER_FILES, hard)
+    others = OTHER_FILES + FILES_OF_NODE * nodes
+    wanted = most + others if hard == resource.RLIM_INFINITY else min(most + others, hard)
     if soft < wanted:
         resource.setrlimit(resource.RLIMIT_NOFILE, (wanted, hard))
-    return min(most, max(wanted - OTHER_FILES, wanted // 8))
+    return min(most, max(wanted - others, wanted // 8))
 
 
 async def first_of(end, work):
@@ -279,7 +282,7 @@ async def run(folder, cores=None, aggregators=None, address=("127.0.0.1", 8080),
     for number in (signal.SIGINT, signal.SIGTERM):
         asyncio.get_running_loop().add_signal_handler(number, told.set)
     house = House(service)
-    door = service.door = Door(house, open_files(MOST_CONNECTIONS))
+    door = service.door = Door(house, open_files(MOST_CONNECTIONS, len(service.network.nodes)))
     end, extra = asyncio.create_task(told.wait()), [asyncio.create_task(trouble_with(service))] if trouble_with else []
     try:
         await first_of(end, asyncio.create_task(service.begin()))
