@@ -13,6 +13,7 @@ from . import extension, files
 from .calendar import Calendar
 from .clock import MOST_WAITING, Busy, Clock, NotSigned
 from .door import MOST_ACCEPTED, MOST_CONNECTIONS, Answer, Door, signature_answer
+from .hours import Broken
 from .metrics import Spans, memory
 from .network import Network
 from .node import Down
@@ -47,6 +48,8 @@ def plan_of(folder, cores=None, aggregators=None):
     """The plan of a folder, which is made where there is none. What is asked for has to be what an old folder has."""
     path = os.path.join(folder, "plan")
     if not os.path.exists(path):
+        if os.path.exists(os.path.join(folder, "record")):
+            raise Broken(f"{path} is not there, and the folder has a record: bring it back")
         parents = parents_of(aggregators or AGGREGATORS, cores or CORES)
         files.write(path, Plan(cores or CORES, int(time.time()) + 1, parents).text().encode())
     plan = Plan.read(path)
