@@ -197,6 +197,8 @@ def rests(folder):
 def at_rest(folder):
     """Has a folder to itself, over which no service runs. The door of one that was killed is removed: its number may be another
     process's by now, and whoever finds the folder locked would take that for the service."""
+    if not os.path.exists(os.path.join(folder, "plan")):
+        raise Failed(f"{folder} has no plan: it was no service's")
     with files.lock(folder):
         files.remove(os.path.join(folder, "door"))
         yield
@@ -261,8 +263,6 @@ def backup(words):
 
 def forget(words):
     """Lets the aggregators of a service that is stopped forget rounds whose signatures were handed out."""
-    if not os.path.exists(os.path.join(words.folder, "plan")):
-        raise Failed(f"{words.folder} has no plan: it was no service's")
     with at_rest(words.folder):
         forgetting.forget(words.folder, words.before)
 

@@ -124,6 +124,7 @@ class CommandTest(unittest.TestCase):
         with subprocess.Popen(["sleep", "60"]) as other:
             self.addCleanup(other.kill)
             self.door("127.0.0.1:9", other.pid)
+            files.write(os.path.join(self.folder, "plan"), b"")
 
             def check(*_, **__):
                 self.assertIn("no service runs", self.command("stop", self.folder, status=1))
@@ -132,6 +133,14 @@ class CommandTest(unittest.TestCase):
                 self.command("check", self.folder)
             self.assertIsNone(other.poll())
             other.kill()
+
+    def test_a_folder_that_was_no_services_is_left_as_it_is(self):
+        """As one that was misspelled: nothing in it is removed."""
+        self.door("127.0.0.1:9", 1)
+        for words in (("check", self.folder), ("backup", self.folder, self.room.name), ("forget", self.folder)):
+            self.assertIn("has no plan: it was no service's", self.command(*words, status=1))
+        self.assertEqual(os.listdir(self.folder), ["door"])
+        self.assertIn("has no plan", self.command("check", os.path.join(self.room.name, "absent"), status=1))
 
     def test_a_node_that_ends_before_it_is_asked_is_told(self):
         path = os.path.join(self.room.name, stands.NODE)
