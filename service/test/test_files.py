@@ -230,6 +230,21 @@ class FilesTest(unittest.TestCase):
         self.assertFalse(files.is_held(self.room.name))
         files.lock(self.room.name).close()
 
+    @unittest.skipIf(os.geteuid(), "not root: a folder of another user is closed to this one")
+    def test_root_runs_nothing_over_a_folder_of_another_user(self):
+        """That user could not open what root leaves, as the file of an aggregator that forgot."""
+        path = os.path.join(self.room.name, "lock")
+        files.write(path, b"")
+        os.chown(path, 65534, 65534)
+        self.assertFalse(files.is_held(self.room.name))
+        with self.assertRaisesRegex(files.Foreign, "lock is of the user nobody"):
+            files.lock(self.room.name)
+        os.chown(path, 54321, 54321)
+        with self.assertRaisesRegex(files.Foreign, "lock is of the user 54321"):
+            files.lock(self.room.name)
+        os.chown(path, 0, 0)
+        files.lock(self.room.name).close()
+
     def test_who_looks_whether_a_folder_is_held_keeps_nobody_out(self):
         looking = files.lock_of(os.path.join(self.room.name, "lock"), "", fcntl.LOCK_SH)
         self.assertFalse(files.is_held(self.room.name))
