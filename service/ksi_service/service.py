@@ -1,6 +1,7 @@
 """The service: nodes, clock, record, publications and door, over one folder."""
 import asyncio
 import collections
+import contextlib
 import gc
 import os
 import resource
@@ -40,8 +41,9 @@ MOST_EXTENDING, MOST_TO_EXTEND = 4, 64
 
 
 def say(text):
-    """One line for an event worth knowing."""
-    print(text, file=sys.stderr, flush=True)
+    """One line for an event worth knowing. What cannot be told, as on a full disk, ends nothing."""
+    with contextlib.suppress(OSError):
+        print(text, file=sys.stderr, flush=True)
 
 
 def plan_of(folder, cores=None, aggregators=None):
