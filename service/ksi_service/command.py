@@ -20,7 +20,7 @@ from . import replay as replaying
 from . import extension, files, hours, service, streams
 from .calendar import Calendar
 from .clock import PlanEnded
-from .elements import Malformed, parts_of
+from .elements import Malformed, parts_of, published_in
 from .node import Down, GivenUp, LostFacts
 from .plan import Odd, Plan
 from .programs import Missing
@@ -219,8 +219,22 @@ def publications(words):
     content = Publications(words.folder).content if rests(words.folder) else ask(words.folder, "/publications")
     if content is None:
         raise Failed(f"nothing was published yet over {words.folder}")
+    kept = files.content_of(words.out)
+    if kept is not None:
+        see_kept(words, kept, content)
     files.write(words.out, content)
     print(f"saved {words.out}")
+
+
+def see_kept(words, kept, content):
+    """Sees that nothing is lost of a file which publications are to replace, as those of another plan."""
+    hint = "is not replaced: -o NAME saves these beside it"
+    try:
+        lost = set(published_in(kept)) - set(published_in(content))
+    except Malformed:
+        raise Failed(f"{words.out} is no publications file, and {hint}") from None
+    if lost:
+        raise Failed(f"{words.out} has publications that are none of {words.folder}, and {hint}")
 
 
 def verify(words):

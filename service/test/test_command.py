@@ -107,6 +107,18 @@ class CommandTest(unittest.TestCase):
             self.assertIn("is there already", self.command("sign", name, "-o", f"{name}.second", status=1))
         self.assertEqual((files.content_of(f"{name}.ksig"), files.content_of(f"{name}.second")), (b"older", b"newer"))
 
+    def test_publications_take_the_place_of_the_same_ones_alone(self):
+        """Who verifies against an older plan has to keep its publications file too."""
+        out, roots = os.path.join(self.room.name, "publications"), [(5, "1" * 64), (9, "2" * 64), (12, "3" * 64)]
+        for told, status in ((roots[:1], 0), (roots[:2], 0), (roots[1:], 1), ([*roots[:1], (9, "4" * 64)], 1), (roots, 0)):
+            with mock.patch.object(command, "ask", lambda *_, told=told: publications_file(told)):
+                self.assertIn("saved" if status == 0 else "has publications that are none of", self.command("publications", "-o", out, status=status))
+        self.assertEqual(files.content_of(out), publications_file(roots))
+        files.write(out, b"a letter")
+        with mock.patch.object(command, "ask", lambda *_: publications_file(roots)):
+            self.assertIn("is no publications file", self.command("publications", "-o", out, status=1))
+        self.assertEqual(files.content_of(out), b"a letter")
+
     def test_another_user_may_ask(self):
         self.serve()
         os.chmod(self.room.name, 0o755)
