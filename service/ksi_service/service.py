@@ -138,7 +138,7 @@ class Service:
     def __init__(self, folder, plan, publish_every=3600, most_waiting=MOST_WAITING, cut_every=3600, forget_every=3600, over="pipes", trouble=None):
         self.folder, self.plan, self.publish_every, self.cut_every, self.forget_every = folder, plan, publish_every, cut_every, forget_every
         self.network = Network(folder, plan, trouble, say) if over == "pipes" else RemoteNetwork(folder, plan, over, say)
-        self.clock = Clock(self.network, most_waiting)
+        self.clock = Clock(self.network, most_waiting, say=say)
         self.resting = Resting(self.clock, say)
         self.publications, self.calendar = Publications(folder), Calendar(plan.start)
         self.publishing, self.clock.on_published = asyncio.Lock(), self.publish
