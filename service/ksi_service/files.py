@@ -48,9 +48,12 @@ def lock_of(path, reason, how=fcntl.LOCK_EX, mode="a"):
         raise Foreign(f"{path} is of the user {name_of(owner)}, who could not open what root leaves: run this as that user")
     try:
         fcntl.flock(file, how | fcntl.LOCK_NB)
-    except OSError:
+    except BlockingIOError:
         file.close()
         raise Held(reason) from None
+    except OSError as error:
+        file.close()
+        raise OSError(error.errno, error.strerror, path) from None
     return file
 
 

@@ -245,6 +245,11 @@ class FilesTest(unittest.TestCase):
         os.chown(path, 0, 0)
         files.lock(self.room.name).close()
 
+    def test_a_file_system_without_locks_is_no_other_service(self):
+        with mock.patch("fcntl.flock", side_effect=OSError(37, "No locks available")):
+            with self.assertRaisesRegex(OSError, "No locks available: .*/lock"):
+                files.lock(self.room.name)
+
     def test_who_looks_whether_a_folder_is_held_keeps_nobody_out(self):
         looking = files.lock_of(os.path.join(self.room.name, "lock"), "", fcntl.LOCK_SH)
         self.assertFalse(files.is_held(self.room.name))
