@@ -3,6 +3,7 @@ import argparse
 import asyncio
 import contextlib
 import hashlib
+import http.client
 import json
 import os
 import re
@@ -63,7 +64,7 @@ def ask(folder, path, content=None, kind="text/plain"):
             return answer.read()
     except urllib.error.HTTPError as error:
         raise Failed(error.read().decode(errors="replace").strip()) from None
-    except OSError as error:
+    except (OSError, http.client.HTTPException) as error:
         if files.is_held(folder):
             raise Failed(f"the door at {address} does not answer: {getattr(error, 'reason', error)}") from None
         raise Failed(f"no service runs over {folder}, and the last one was not stopped: ksi-service start {folder}") from None

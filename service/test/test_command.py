@@ -131,6 +131,11 @@ class CommandTest(unittest.TestCase):
         finally:
             os.seteuid(user)
 
+    def test_a_door_that_closes_in_the_middle_of_an_answer_is_told(self):
+        self.serve()
+        with mock.patch.object(Status, "send_header", lambda it, name, _: BaseHTTPRequestHandler.send_header(it, name, "99")):
+            self.assertIn("does not answer", self.command("status", self.folder, status=1))
+
     def test_who_was_killed_is_not_stopped_while_somebody_checks_the_folder(self):
         """The number that it left may be another process's by now."""
         with subprocess.Popen(["sleep", "60"]) as other:
