@@ -47,6 +47,8 @@ def door(folder):
         with open(os.path.join(folder, "door"), encoding="ascii") as file:
             address, number = file.read().split()
     except FileNotFoundError:
+        if files.is_held(folder):
+            raise Failed(f"{folder} is in use, and its door is not open: a service starts or stops, or no service runs and somebody checks it") from None
         raise Failed(f"no service runs over {folder}: ksi-service start {folder}") from None
     return address, int(number)
 

@@ -131,6 +131,14 @@ class CommandTest(unittest.TestCase):
         finally:
             os.seteuid(user)
 
+    def test_a_service_that_starts_is_not_called_absent(self):
+        """Its nodes may read their files for minutes. Who is told to start it would be told then that another one runs."""
+        self.held()
+        for word in ("stop", "status"):
+            told = self.command(word, self.folder, status=1)
+            self.assertIn("is in use, and its door is not open: a service starts or stops", told)
+            self.assertNotIn("ksi-service start", told)
+
     def test_a_door_that_closes_in_the_middle_of_an_answer_is_told(self):
         self.serve()
         with mock.patch.object(Status, "send_header", lambda it, name, _: BaseHTTPRequestHandler.send_header(it, name, "99")):
