@@ -125,7 +125,8 @@ def reason_in(path, before):
     with open(path, "rb") as log:
         log.seek(before)
         rows = log.read().decode(errors="replace").splitlines()
-    return next((row[len("ksi-service: "):] for row in reversed(rows) if row.startswith("ksi-service: ")), f"see {path}")
+    hint = f"see {path}" if rows else "its log says nothing, as on a full disk"
+    return next((row[len("ksi-service: "):] for row in reversed(rows) if row.startswith("ksi-service: ")), hint)
 
 
 def run(words):

@@ -91,6 +91,11 @@ class CommandTest(unittest.TestCase):
         while files.is_held(self.folder):
             time.sleep(0.05)
 
+    def test_a_log_that_says_nothing_is_told_as_that(self):
+        """Where the disk is full, there is nothing to see in it."""
+        with mock.patch.object(command.sys, "argv", ["/dev/null", "start", self.folder]):
+            self.assertIn("its log says nothing, as on a full disk", self.command("start", self.folder, status=1))
+
     def test_a_proxy_of_the_machine_is_not_asked(self):
         self.serve()
         with mock.patch.dict(os.environ, http_proxy="http://127.0.0.1:9", no_proxy=""):
