@@ -10,6 +10,7 @@ import threading
 import time
 
 from .forget import NotForgotten
+from .hours import Broken
 from .network import MOST_DECIDED, decree_of, second_of
 from .node import Down, Line
 from .record import Record
@@ -114,6 +115,18 @@ class RemoteNetwork:
         if not client.set("ksi:plan", self.plan.text(), nx=True) and client.get("ksi:plan") != self.plan.text():
             raise Down("the server has another plan: use another database of it, or this plan's folder")
 
+    def see_whole(self, client):
+        """Sees that each log on the server goes on where the record ends: what is on the record's disk was cut off, but for the last."""
+        for name in self.nodes:
+            log, last = f"ksi:log:{name}", self.record.state.seen.get(name)
+            if last is None:
+                entries = [fields for _, entries in client.xread({log: "0"}, count=1) or [] for _, fields in entries]
+                goes_on = all("ready" in it and "restart" not in it for it in entries)
+            else:
+                goes_on = client.xrevrange(log, last, last, count=1)
+            if not goes_on:
+                raise Broken(f"the record does not end where the server's log of {name} goes on: bring back the record's last state")
+
     async def thread(self, work):
         """Runs work in a thread of its own until the network ends."""
         done, loop = asyncio.get_running_loop().create_future(), asyncio.get_running_loop()
@@ -131,6 +144,7 @@ class RemoteNetwork:
         """Reads what the nodes did, and who is there, in a thread. Nothing is sent to a node before the plan is the server's."""
         client = connect(self.url)
         patiently(lambda: self.begin_plan(client), self.say)
+        patiently(lambda: self.see_whole(client), self.say)
         seen = {f"ksi:log:{name}": self.record.state.seen.get(name, "0") for name in self.nodes}
         seen.update(patiently(lambda: {it: last_of(client, it) for it in (f"ksi:said:{name}" for name in self.nodes)}, self.say))
         looked, trimmed, away = 0.0, 0.0, False

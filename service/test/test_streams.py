@@ -15,6 +15,7 @@ from unittest import mock
 
 import stands
 from ksi_service import remote, streams
+from ksi_service.hours import Broken
 from ksi_service.node import LostFacts
 from ksi_service.plan import Plan
 from ksi_service.record import Signed, last_state, told
@@ -85,8 +86,8 @@ class Away:
     def xrevrange(self, *_, **__):
         return []
 
-    def xread(self, *_, **__):
-        if next(self.answers, None) is None:
+    def xread(self, *_, count, **__):
+        if count > 1 and next(self.answers, None) is None:
             raise ConnectionError("gone")
         return []
 
@@ -109,6 +110,30 @@ class AwayTest(unittest.TestCase):
                 mock.patch.object(remote, "errors", lambda: ConnectionError):
             asyncio.run(go(folder))
         self.assertEqual(said, ["the server is away: gone"] * 2)
+
+
+class OlderTest(unittest.TestCase):
+    def looked(self, seen, log):
+        """Sees whether a record that ends at an entry goes on in a log."""
+        client = mock.Mock()
+        client.xrevrange.side_effect = lambda name, last, first, count: [it for it in log if first <= it[0] <= last]
+        client.xread.side_effect = lambda names, count: [[name, log[:count]] for name in names if log]
+        with tempfile.TemporaryDirectory(prefix="ksi-test-") as folder:
+            network = remote.RemoteNetwork(folder, Plan(1, 5, ("c0",)), "")
+            network.record.state.seen.update(dict.fromkeys(network.nodes, seen) if seen else {})
+            try:
+                network.see_whole(client)
+            finally:
+                network.record.file.close()
+
+    def test_a_record_that_lacks_what_the_server_cut_off_is_told(self):
+        """As one from a copy of yesterday. Lines would wait for ever for the ones that sent them."""
+        first, again, later = ("1-0", {"ready": "0"}), ("4-0", {"ready": "7", "restart": "1"}), ("5-0", {"id": "3-0"})
+        for seen, log in ((None, []), (None, [first, later]), ("1-0", [first, later]), ("4-0", [again, later]), ("5-0", [later])):
+            self.looked(seen, log)
+        for seen, log in ((None, [again]), (None, [later]), ("1-0", [again, later]), ("1-0", [])):
+            with self.assertRaisesRegex(Broken, "the record does not end where the server's log of c0 goes on"):
+                self.looked(seen, log)
 
 
 class ComingTest(unittest.TestCase):
