@@ -138,6 +138,8 @@ def node(words):
     """Runs one node of a service whose lines go over Redis."""
     if words.over == "pipes":
         raise Failed("a node on its own needs --over redis://HOST, or KSI_OVER")
+    # a container's first process is ended by no signal that it has no word for
+    signal.signal(signal.SIGTERM, lambda *_: sys.exit())
     streams.NodeHost(words.over, words.folder, words.name, service.say).run()
 
 

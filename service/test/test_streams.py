@@ -74,6 +74,21 @@ class HeadTest(unittest.TestCase):
                 self.assertEqual(head.returncode, 0)
 
 
+@unittest.skipIf(WHY, WHY)
+class HostTest(unittest.TestCase):
+    def test_a_host_that_is_told_to_end_ends(self):
+        """Whoever has no word for that signal is not ended by it as the first process of a container."""
+        with tempfile.TemporaryDirectory(prefix="ksi-test-") as room:
+            words = [PYTHON, stands.COMMAND, "node", "c0", "data", "--over", "redis://127.0.0.1:9"]
+            with subprocess.Popen(words, stderr=subprocess.PIPE, cwd=room, text=True) as host:
+                try:
+                    self.assertIn("the server is away", host.stderr.readline())
+                    host.send_signal(signal.SIGTERM)
+                    self.assertEqual(host.wait(10), 0)
+                finally:
+                    host.kill()
+
+
 class Away:
     """A client of a server that goes away, comes back for a moment, and stays away."""
 
