@@ -1,5 +1,6 @@
 """The files of a record: compressed, damaged, or not there."""
 import os
+import tempfile
 import time
 import unittest
 from unittest import mock
@@ -66,6 +67,18 @@ class HoursTest(Recorded):
         with open(os.path.join(self.folder, "00000001.gz"), "wb") as file:
             file.write(b"half of it")
         self.assertEqual(len(list(told(self.folder))), 1)
+
+
+class TornTest(unittest.TestCase):
+    def test_what_was_cut_off_before_is_kept_too(self):
+        """It may be all that there is of what a disk damaged, and the power may fail again in that hour."""
+        with tempfile.TemporaryDirectory() as room:
+            path = os.path.join(room, "00000001")
+            for rest in (b"one", b"two", b"three", b""):
+                files.write(path, b"whole" + rest)
+                hours.cut_off(path, 5)
+            kept = {name: files.content_of(os.path.join(room, name)) for name in sorted(os.listdir(room))}
+        self.assertEqual(kept, {"00000001": b"whole", "00000001.torn": b"one", "00000001.torn.1": b"two", "00000001.torn.2": b"three"})
 
 
 if __name__ == "__main__":
