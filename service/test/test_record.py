@@ -267,7 +267,7 @@ restart c0
         said = [["given", "c0", f"tell 5 {ONES}", None], ["said", "c0", ["answer done"]]]
         self.write(["ready", "c0", 0, 0], *said * 5000)
         plan, path = os.path.join(self.room.name, "plan"), os.path.join(self.room.name, "ksi_retrace")
-        files.write(plan, Plan(1, 5, ()).text().encode())
+        files.write(plan, Plan(1, 5, ("c0",)).text().encode())
         files.write(path, b"#!/bin/sh\necho differs 2 9; exit 1\n")
         os.chmod(path, stat.S_IRWXU)
         with mock.patch.dict(os.environ, KSI_BIN=self.room.name):
