@@ -6,6 +6,7 @@ import asyncio
 import collections
 import os
 import queue
+import secrets
 import threading
 import time
 
@@ -141,10 +142,12 @@ class RemoteNetwork:
         await done
 
     def read(self, loop):
-        """Reads what the nodes did, and who is there, in a thread. Nothing is sent to a node before the plan is the server's."""
-        client = connect(self.url)
+        """Reads what the nodes did, and who is there, in a thread. Nothing is sent to a node before the plan is the server's. Of two heads
+        the one that was started last goes on: each cuts off the logs what the other one may lack."""
+        client, run = connect(self.url), secrets.token_hex(8)
         patiently(lambda: self.begin_plan(client), self.say)
         patiently(lambda: self.see_whole(client), self.say)
+        patiently(lambda: client.set("ksi:head", run), self.say)
         seen = {f"ksi:log:{name}": self.record.state.seen.get(name, "0") for name in self.nodes}
         seen.update(patiently(lambda: {it: last_of(client, it) for it in (f"ksi:said:{name}" for name in self.nodes)}, self.say))
         looked, trimmed, away = 0.0, 0.0, False
@@ -154,7 +157,9 @@ class RemoteNetwork:
                 there = None
                 if time.monotonic() - looked > ALIVE_MILLISECONDS / 5000:
                     looked = time.monotonic()
-                    there = client.mget([f"ksi:alive:{name}" for name in self.nodes])
+                    *there, head = client.mget([*(f"ksi:alive:{name}" for name in self.nodes), "ksi:head"])
+                    if head != run:
+                        raise Broken("another head runs by now, or the server lost what it was told")
                 if time.monotonic() - trimmed > TRIM_SECONDS:
                     trimmed = time.monotonic()
                     self.trim(client)

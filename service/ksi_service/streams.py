@@ -1,6 +1,7 @@
 """Redis Streams as the carrier of lines between machines, and the host of one node on its own machine.
 
     ksi:plan          the plan, a string
+    ksi:head          which run of a head is there
     ksi:to:NODE       lines for a node: line, and from (NODE ID PLACE, of the line that made it and which of its messages it is) or ask
     ksi:log:NODE      what the node did: id, line, from, ask, said (its block), or unsaid; or ready and, but for the first start, restart
     ksi:said:NODE     what changed nothing: ask, said. Refusals, answers to questions and what was forgotten; the last few thousand are kept

@@ -95,7 +95,8 @@ class Away:
     def __init__(self):
         self.answers = iter([None, None, [], None])
 
-    def set(self, *_, **__):
+    def set(self, _, value, **__):
+        self.head = value
         return True
 
     def xrevrange(self, *_, **__):
@@ -107,7 +108,7 @@ class Away:
         return []
 
     def mget(self, names):
-        return [None for _ in names]
+        return [*(None for _ in names[1:]), self.head]
 
 
 class AwayTest(unittest.TestCase):
@@ -125,6 +126,34 @@ class AwayTest(unittest.TestCase):
                 mock.patch.object(remote, "errors", lambda: ConnectionError):
             asyncio.run(go(folder))
         self.assertEqual(said, ["the server is away: gone"] * 2)
+
+
+class Other(Away):
+    """A client of a server that another head talks to from some time on."""
+
+    def __init__(self):
+        super().__init__()
+        self.answers = iter([[]] * 50)
+
+    def mget(self, names):
+        told = super().mget(names)
+        self.head = "another"
+        return told
+
+
+class HeadsTest(unittest.TestCase):
+    def test_a_head_ends_where_another_one_is_by_now(self):
+        """As one whose machine was off the network, and was replaced by another with a copy of its folder."""
+        async def go(folder):
+            network, loop = remote.RemoteNetwork(folder, Plan(1, 5, ("c0",)), ""), asyncio.get_running_loop()
+            try:
+                await loop.run_in_executor(None, network.read, loop)
+            finally:
+                await network.record.close()
+        with tempfile.TemporaryDirectory(prefix="ksi-test-") as folder, mock.patch.object(remote, "connect", lambda url: Other()), \
+                mock.patch.object(remote, "errors", lambda: ConnectionError), mock.patch.object(remote, "ALIVE_MILLISECONDS", 0):
+            with self.assertRaisesRegex(Broken, "another head"):
+                asyncio.run(go(folder))
 
 
 class OlderTest(unittest.TestCase):
