@@ -101,10 +101,12 @@ def keep(made, name):
 
 
 def write(name, content):
-    """Writes a file whole, then puts it in its place."""
+    """Writes a file whole, then puts it in its place. One that it replaces leaves it its mode."""
     made = f"{name}.new"
     try:
         with open(made, "wb") as file:
+            if os.path.exists(name):
+                os.fchmod(file.fileno(), os.stat(name).st_mode & 0o777)
             file.write(content)
         keep(made, name)
     except OSError:

@@ -214,6 +214,13 @@ class FilesTest(unittest.TestCase):
             files.write(self.path, b"two")
         self.assertEqual((files.content_of(self.path), os.listdir(self.room.name)), (b"one", ["file"]))
 
+    def test_a_file_that_is_replaced_keeps_its_mode(self):
+        """As a signature that others may not read, when it is extended."""
+        files.write(self.path, b"one")
+        os.chmod(self.path, 0o600)
+        files.write(self.path, b"two")
+        self.assertEqual((files.content_of(self.path), os.stat(self.path).st_mode & 0o777), (b"two", 0o600))
+
     def test_the_names_of_new_folders_are_on_the_disk(self):
         synced, room = [], os.path.realpath(self.room.name)
         with mock.patch("os.fsync", lambda number: synced.append(os.readlink(f"/proc/self/fd/{number}"))):
