@@ -235,9 +235,7 @@ class Record:
             cut_off(found[-1], whole)
             self.number = int(os.path.basename(found[-1]))
             self.file = open(found[-1], "ab", buffering=0)
-        for path in found[:-1]:
-            if not path.endswith(".gz"):
-                self.pack(path)
+        self.pack_all()
 
     def open_next(self, number):
         """Begins the file behind this one."""
@@ -317,11 +315,14 @@ class Record:
         before = self.file
         self.open_next(self.number)
         before.close()
-        self.pack(before.name)
+        self.pack_all()
 
-    def pack(self, path):
+    def pack_all(self):
+        """Compresses all files but the last: also what there was no room for before."""
         self.packing = [it for it in self.packing if not it.done()]
-        self.packing.append(self.packer.submit(pack, path, lambda: self.closing))
+        for path in names(self.folder)[:-1]:
+            if not path.endswith(".gz"):
+                self.packing.append(self.packer.submit(pack, path, lambda: self.closing))
 
     async def close(self):
         """Writes what waits, behind what is on its way to the disk, and closes the file once its writer has ended. What takes too long to

@@ -42,6 +42,16 @@ class HoursTest(Recorded):
         self.assertEqual(self.opened().state.steps, 1)
         self.assertEqual((names(self.folder), len(list(told(self.folder)))), ([path], 1))
 
+    def test_what_there_was_no_room_for_is_compressed_at_the_next_cut(self):
+        async def work(record):
+            with mock.patch.object(hours.gzip, "open", side_effect=OSError(28, "No space left on device")):
+                await record.cut()
+                record.packing[-1].result()
+            self.assertEqual([os.path.basename(it) for it in names(self.folder)], ["00000001", "00000002"])
+            await record.cut()
+        self.opened(work)
+        self.assertEqual([os.path.basename(it) for it in names(self.folder)], ["00000001.gz", "00000002.gz", "00000003"])
+
     def test_what_takes_too_long_to_compress_is_left_whole(self):
         async def work(record):
             record.add(["given", "c0", "x" * (3 << 20), None])
