@@ -131,6 +131,8 @@ class NodeHost:
         self.to, self.log, self.said = (f"ksi:{it}:{name}" for it in ("to", "log", "said"))
         self.process, self.facts, self.before, self.vain, self.serial = None, 0, None, 0, 0
         self.run_id, self.pending, self.told_alive = secrets.token_hex(8), [], 0.0
+        self.last, self.has_begun = None, False
+        """The last transaction for this node, and whether it was this host's."""
         self.forgotten = None
         """A line that was to forget, and what is said to it with the next start."""
 
@@ -187,6 +189,8 @@ class NodeHost:
 
     def begin(self, block):
         """Sees which of the lines that were given and not acknowledged happened, by the count of facts."""
+        if not self.has_begun:
+            self.last = self.patiently(lambda: self.client.get(f"ksi:done:{self.name}"))
         known = self.patiently(lambda: self.client.get(f"ksi:facts:{self.name}"))
         told, self.forgotten = self.forgotten, None
         self.pending = [it for it in self.patiently(self.unacknowledged) if told is None or it[0] != told[0]]
@@ -303,26 +307,32 @@ class NodeHost:
         except errors():
             self.patiently(lambda: self.transact(fill, serial, look=True))
 
+    def between(self):
+        """What a transaction of another host means: one that was killed did it before this one began, or it runs the node by now."""
+        if self.has_begun:
+            return LostFacts(f"another host runs {self.name} by now, or the server lost what it was told")
+        return Ended("as another host did something meanwhile")
+
     def transact(self, fill, serial, look):
         """A transaction that fails if another one of this host comes between: one whose connection was lost may still be on its way. The
-        client calls a connection that is lost meanwhile a change of what is watched, too. But for the first one, the last transaction has
-        to be this host's: a node that ran twice would vote twice."""
+        client calls a connection that is lost meanwhile a change of what is watched, too. It goes on from the last one that this host
+        knows: a node that ran twice would vote twice."""
         import redis
         done = f"ksi:done:{self.name}"
         with self.client.pipeline(transaction=True) as commit:
             while True:
                 try:
                     commit.watch(done)
-                    last = commit.get(done) if look or self.serial > 1 else None
-                    if look and last == serial:
-                        return
-                    if self.serial > 1 and (last or "").split(" ")[0] != self.run_id:
-                        raise LostFacts(f"another host runs {self.name} by now, or the server lost what it was told")
-                    commit.multi()
-                    fill(commit)
-                    commit.set(f"ksi:facts:{self.name}", self.facts if self.before is None else f"{self.facts} {self.before}")
-                    commit.set(done, serial)
-                    commit.execute()
+                    last = commit.get(done)
+                    if not (look and last == serial):
+                        if last != self.last:
+                            raise self.between()
+                        commit.multi()
+                        fill(commit)
+                        commit.set(f"ksi:facts:{self.name}", self.facts if self.before is None else f"{self.facts} {self.before}")
+                        commit.set(done, serial)
+                        commit.execute()
+                    self.last, self.has_begun = serial, True
                     return
                 except redis.WatchError:
                     commit.reset()

@@ -260,12 +260,24 @@ class TransactionTest(unittest.TestCase):
         lost, changed = Client.ConnectionError(), Client.WatchError()
         self.assertEqual(self.committed(), (1, 0))
         self.assertEqual(self.committed(lost), (1, 0))
-        self.assertEqual(self.committed(None, lost, None, None, None), (2, 0))
-        self.assertEqual(self.committed(None, changed, None, None, None), (2, 1))
+        self.assertEqual(self.committed(None, None, lost, None, None, None), (2, 0))
+        self.assertEqual(self.committed(None, None, changed, None, None, None), (2, 1))
         # the connection is lost while it is watched, and while it is asked what was done
-        self.assertEqual(self.committed(None, lost, None, changed, None, None, None), (2, 1))
+        self.assertEqual(self.committed(None, None, lost, None, changed, None, None, None), (2, 1))
         self.assertEqual(self.committed(changed, lost, changed), (1, 2))
 
+    def test_a_host_begins_again_where_one_that_was_killed_did_something_meanwhile(self):
+        """Its last transaction was on its way still when this one read what was done."""
+        client, commit = mock.MagicMock(), mock.MagicMock()
+        client.get.side_effect, client.xreadgroup.return_value = ["one 7", "4"], []
+        client.pipeline.return_value.__enter__.return_value, commit.get.return_value = commit, "one 8"
+        with mock.patch.dict(sys.modules, redis=Client), mock.patch.object(streams, "connect", lambda url: client):
+            host = streams.NodeHost("", "", "c0")
+            self.assertRaises(streams.Ended, host.begin, ["ready 4"])
+            self.assertFalse(commit.execute.called)
+            client.get.side_effect = ["one 8", "5"]
+            host.begin(["ready 5"])
+            self.assertTrue(commit.execute.called)
 
     def test_a_host_ends_where_another_one_runs_its_node_by_now(self):
         """As one whose machine was off the network, and was replaced by another with a copy of its files."""
