@@ -84,7 +84,7 @@ class Merge:
 class RemoteNetwork:
     def __init__(self, folder, plan, url, say=lambda text: None):
         self.plan, self.url, self.say, self.lost = plan, url, say, 0
-        self.record = Record(os.path.join(folder, "record"))
+        self.record = Record(os.path.join(folder, "record"), plan.text())
         self.nodes = {name: RemoteNode(name, self) for name in plan.names()}
         self.merge = Merge(self.record, {name: collections.deque() for name in self.nodes})
         self.flights = collections.defaultdict(collections.Counter)
