@@ -153,7 +153,11 @@ class NodeHost:
     def prepare(self):
         """Gets the plan, once it is there, and makes the stream's group."""
         import redis
+        told = False
         while not (plan := self.client.get("ksi:plan")):
+            if not told:
+                self.say(f"{self.name} waits for a head: the server has no plan yet")
+            told = True
             time.sleep(0.2)
         path = os.path.join(self.folder, "plan")
         if files.content_of(path) not in (None, plan.encode()):

@@ -292,6 +292,16 @@ class TransactionTest(unittest.TestCase):
         self.assertEqual(client.filled, 2)
 
 
+class PrepareTest(unittest.TestCase):
+    def test_a_host_that_waits_for_a_plan_says_so_once(self):
+        client, said = mock.Mock(), []
+        client.get.side_effect = [None, None, "a plan"]
+        with tempfile.TemporaryDirectory(prefix="ksi-test-") as room, mock.patch.dict(sys.modules, redis=mock.Mock()), \
+                mock.patch.object(streams, "connect", lambda url: client):
+            streams.NodeHost("", room, "c0", said.append).prepare()
+        self.assertEqual(said, ["c0 waits for a head: the server has no plan yet"])
+
+
 class SilentTest(unittest.TestCase):
     def test_a_process_that_is_silent_about_a_line_is_killed_and_one_that_is_asked_nothing_is_not(self):
         said = []
