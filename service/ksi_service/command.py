@@ -8,6 +8,7 @@ import json
 import os
 import re
 import signal
+import sqlite3
 import subprocess
 import sys
 import time
@@ -378,7 +379,7 @@ def main(arguments):
         # whoever read the lines has ended, as `head` does
         os.dup2(os.open(os.devnull, os.O_WRONLY), sys.stdout.fileno())
         return 1
-    except (Failed, Missing, Broken, streams.Missing, Down, GivenUp, LostFacts, Odd, PlanEnded, files.Held, files.Foreign, checking.Differs, Refused, OSError) as error:
+    except (Failed, Missing, Broken, streams.Missing, Down, GivenUp, LostFacts, Odd, PlanEnded, files.Held, files.Foreign, checking.Differs, Refused, sqlite3.Error, OSError) as error:
         named = isinstance(error, OSError) and error.filename is not None
         print("ksi-service: " + (f"{error.filename}: {error.strerror}" if named else str(error)), file=sys.stderr)
         return FOR_A_PERSON if isinstance(error, (Broken, LostFacts, PlanEnded)) else 1

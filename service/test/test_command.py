@@ -3,6 +3,7 @@ import contextlib
 import io
 import json
 import os
+import sqlite3
 import subprocess
 import tempfile
 import threading
@@ -171,6 +172,12 @@ class CommandTest(unittest.TestCase):
             self.assertIn("has no plan: it was no service's", self.command(*words, status=1))
         self.assertEqual(os.listdir(self.folder), ["door"])
         self.assertIn("has no plan", self.command("check", os.path.join(self.room.name, "absent"), status=1))
+
+    def test_a_check_that_lacks_room_is_told(self):
+        """`check --by-node` has what was said in a file of the system's folder for such, which may be small."""
+        files.write(os.path.join(self.folder, "plan"), b"")
+        with mock.patch.object(command.checking, "check", side_effect=sqlite3.OperationalError("database or disk is full")):
+            self.assertIn("ksi-service: database or disk is full", self.command("check", self.folder, "--by-node", status=1))
 
     def test_a_node_that_ends_before_it_is_asked_is_told(self):
         path = os.path.join(self.room.name, stands.NODE)
