@@ -49,8 +49,8 @@ class Request:
 
 
 class Clock:
-    def __init__(self, network, most_waiting=MOST_WAITING, now=time.time):
-        self.network, self.plan, self.now, self.most_waiting = network, network.plan, now, most_waiting
+    def __init__(self, network, most_waiting=MOST_WAITING, now=time.time, say=lambda text: None):
+        self.network, self.plan, self.now, self.most_waiting, self.say = network, network.plan, now, most_waiting, say
         self.asked = {}
         self.resting = set()
         """Aggregators that take no requests for now."""
@@ -256,16 +256,19 @@ class Clock:
         return words[2]
 
     async def publish_by_any(self, second, first=0):
-        """Lets a core publish a second, from the first one on the one that can."""
+        """Lets a core publish a second, from the first one on the one that can. Returns whether one did."""
         for turn in range(self.plan.cores):
             if await self.publish((first + turn) % self.plan.cores, second) is not None:
-                return
+                return True
+        self.say(f"second {second} is not published: no core that is up holds all seconds to it")
+        return False
 
     async def end(self, tasks):
         """The end of the plan: what is under way is waited for, and the last second is published."""
         await asyncio.gather(*tasks)
         last = self.plan.start + SECONDS - 1
-        await self.publish_by_any(last)
+        if not await self.publish_by_any(last):
+            raise PlanEnded(f"the plan's last second was {last}, and is not published: see to a majority of the cores, and start again")
         raise PlanEnded(f"the plan's last second was {last}, and is published: begin a new folder, and keep this one")
 
     async def due(self, second):

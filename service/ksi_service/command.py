@@ -3,10 +3,12 @@ import argparse
 import asyncio
 import contextlib
 import hashlib
+import http.client
 import json
 import os
 import re
 import signal
+import sqlite3
 import subprocess
 import sys
 import time
@@ -20,7 +22,7 @@ from . import replay as replaying
 from . import extension, files, hours, service, streams
 from .calendar import Calendar
 from .clock import PlanEnded
-from .elements import Malformed, parts_of
+from .elements import Malformed, parts_of, published_in
 from .node import Down, GivenUp, LostFacts
 from .plan import Odd, Plan
 from .programs import Missing
@@ -46,6 +48,8 @@ def door(folder):
         with open(os.path.join(folder, "door"), encoding="ascii") as file:
             address, number = file.read().split()
     except FileNotFoundError:
+        if files.is_held(folder):
+            raise Failed(f"{folder} is in use, and its door is not open: a service starts or stops, or no service runs and somebody checks it") from None
         raise Failed(f"no service runs over {folder}: ksi-service start {folder}") from None
     return address, int(number)
 
@@ -63,7 +67,7 @@ def ask(folder, path, content=None, kind="text/plain"):
             return answer.read()
     except urllib.error.HTTPError as error:
         raise Failed(error.read().decode(errors="replace").strip()) from None
-    except OSError as error:
+    except (OSError, http.client.HTTPException) as error:
         if files.is_held(folder):
             raise Failed(f"the door at {address} does not answer: {getattr(error, 'reason', error)}") from None
         raise Failed(f"no service runs over {folder}, and the last one was not stopped: ksi-service start {folder}") from None
@@ -122,7 +126,8 @@ def reason_in(path, before):
     with open(path, "rb") as log:
         log.seek(before)
         rows = log.read().decode(errors="replace").splitlines()
-    return next((row[len("ksi-service: "):] for row in reversed(rows) if row.startswith("ksi-service: ")), f"see {path}")
+    hint = f"see {path}" if rows else "its log says nothing, as on a full disk"
+    return next((row[len("ksi-service: "):] for row in reversed(rows) if row.startswith("ksi-service: ")), hint)
 
 
 def run(words):
@@ -134,6 +139,8 @@ def node(words):
     """Runs one node of a service whose lines go over Redis."""
     if words.over == "pipes":
         raise Failed("a node on its own needs --over redis://HOST, or KSI_OVER")
+    # a container's first process is ended by no signal that it has no word for
+    signal.signal(signal.SIGTERM, lambda *_: sys.exit())
     streams.NodeHost(words.over, words.folder, words.name, service.say).run()
 
 
@@ -158,8 +165,10 @@ def status(words):
 
 
 def sign(words):
-    """Signs a file by its hash: the file does not leave its owner."""
+    """Signs a file by its hash: the file does not leave its owner. An older signature shows more than a new one, so none is replaced."""
     name = words.out or words.file + ".ksig"
+    if os.path.lexists(name):
+        raise Failed(f"{name} is there already, and is not replaced: -o NAME saves another signature")
     content = ask(words.folder, "/sign", digest_of(words.file).encode())
     files.write(name, content)
     print(f"signed {name}{time_of(content)}")
@@ -195,6 +204,8 @@ def rests(folder):
 def at_rest(folder):
     """Has a folder to itself, over which no service runs. The door of one that was killed is removed: its number may be another
     process's by now, and whoever finds the folder locked would take that for the service."""
+    if not os.path.exists(os.path.join(folder, "plan")):
+        raise Failed(f"{folder} has no plan: it was no service's")
     with files.lock(folder):
         files.remove(os.path.join(folder, "door"))
         yield
@@ -215,8 +226,22 @@ def publications(words):
     content = Publications(words.folder).content if rests(words.folder) else ask(words.folder, "/publications")
     if content is None:
         raise Failed(f"nothing was published yet over {words.folder}")
+    kept = files.content_of(words.out)
+    if kept is not None:
+        see_kept(words, kept, content)
     files.write(words.out, content)
     print(f"saved {words.out}")
+
+
+def see_kept(words, kept, content):
+    """Sees that nothing is lost of a file which publications are to replace, as those of another plan."""
+    hint = "is not replaced: -o NAME saves these beside it"
+    try:
+        lost = set(published_in(kept)) - set(published_in(content))
+    except Malformed:
+        raise Failed(f"{words.out} is no publications file, and {hint}") from None
+    if lost:
+        raise Failed(f"{words.out} has publications that are none of {words.folder}, and {hint}")
 
 
 def verify(words):
@@ -259,8 +284,6 @@ def backup(words):
 
 def forget(words):
     """Lets the aggregators of a service that is stopped forget rounds whose signatures were handed out."""
-    if not os.path.exists(os.path.join(words.folder, "plan")):
-        raise Failed(f"{words.folder} has no plan: it was no service's")
     with at_rest(words.folder):
         forgetting.forget(words.folder, words.before)
 
@@ -356,7 +379,7 @@ def main(arguments):
         # whoever read the lines has ended, as `head` does
         os.dup2(os.open(os.devnull, os.O_WRONLY), sys.stdout.fileno())
         return 1
-    except (Failed, Missing, Broken, streams.Missing, Down, GivenUp, LostFacts, Odd, PlanEnded, files.Held, checking.Differs, Refused, OSError) as error:
+    except (Failed, Missing, Broken, streams.Missing, Down, GivenUp, LostFacts, Odd, PlanEnded, files.Held, files.Foreign, checking.Differs, Refused, sqlite3.Error, OSError) as error:
         named = isinstance(error, OSError) and error.filename is not None
         print("ksi-service: " + (f"{error.filename}: {error.strerror}" if named else str(error)), file=sys.stderr)
         return FOR_A_PERSON if isinstance(error, (Broken, LostFacts, PlanEnded)) else 1

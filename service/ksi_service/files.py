@@ -1,6 +1,7 @@
 """Files that are whole or not there: each is written beside its place, synced and renamed. And the lock on a folder."""
 import fcntl
 import os
+import pwd
 import time
 
 LOOKS, LOOK_SECONDS = 10, 0.02
@@ -9,6 +10,10 @@ LOOKS, LOOK_SECONDS = 10, 0.02
 
 class Held(Exception):
     """Another service has the folder."""
+
+
+class Foreign(Exception):
+    """The folder is of another user, who could not open what root leaves there."""
 
 
 def lock(folder):
@@ -35,14 +40,29 @@ def is_held(folder):
 
 
 def lock_of(path, reason, how=fcntl.LOCK_EX, mode="a"):
-    """Locks a file, or raises Held with the reason."""
+    """Locks a file, or raises Held with the reason. Root locks nothing of another user to change it."""
     file = open(path, mode, encoding="ascii")
+    owner = os.fstat(file.fileno()).st_uid
+    if how == fcntl.LOCK_EX and os.geteuid() == 0 != owner:
+        file.close()
+        raise Foreign(f"{path} is of the user {name_of(owner)}, who could not open what root leaves: run this as that user")
     try:
         fcntl.flock(file, how | fcntl.LOCK_NB)
-    except OSError:
+    except BlockingIOError:
         file.close()
         raise Held(reason) from None
+    except OSError as error:
+        file.close()
+        raise OSError(error.errno, error.strerror, path) from None
     return file
+
+
+def name_of(user):
+    """The name of a user by its number, or that where it has none."""
+    try:
+        return pwd.getpwuid(user).pw_name
+    except KeyError:
+        return str(user)
 
 
 def drop_cache(path):
@@ -81,10 +101,12 @@ def keep(made, name):
 
 
 def write(name, content):
-    """Writes a file whole, then puts it in its place."""
+    """Writes a file whole, then puts it in its place. One that it replaces leaves it its mode."""
     made = f"{name}.new"
     try:
         with open(made, "wb") as file:
+            if os.path.exists(name):
+                os.fchmod(file.fileno(), os.stat(name).st_mode & 0o777)
             file.write(content)
         keep(made, name)
     except OSError:

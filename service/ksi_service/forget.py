@@ -69,7 +69,8 @@ def forget(folder, seconds_ago, say=print):
 
 
 async def forget_all(folder, seconds_ago, say):
-    plan, record = Plan.read(os.path.join(folder, "plan")), Record(os.path.join(folder, "record"))
+    plan = Plan.read(os.path.join(folder, "plan"))
+    record = Record(os.path.join(folder, "record"), plan.text())
     try:
         if record.state.seen:
             raise Odd(f"the nodes of {folder} are behind a server: they forget while the service runs (--forget-every)")

@@ -1,5 +1,6 @@
 """The files of a record: a new one each hour, each but the last compressed. One JSON list a line (record.py)."""
 import gzip
+import itertools
 import json
 import os
 import re
@@ -64,6 +65,12 @@ def entry_in(line) -> Optional[list]:
     return entry if isinstance(entry, list) and entry and isinstance(entry[0], str) else None
 
 
+def free(name) -> str:
+    """The name, or if a file has it already, the first free one of those with a number behind it."""
+    numbered = (f"{name}.{number}" for number in itertools.count(1))
+    return next(it for it in itertools.chain([name], numbered) if not os.path.exists(it))
+
+
 def cut_off(path, size):
     """Cuts a file off behind so many bytes, and keeps the rest beside it. After a crash the rest had no effect; but where a disk damaged
     a line in the middle, it is all that there is of what was behind that."""
@@ -75,7 +82,7 @@ def cut_off(path, size):
         try:
             with open(made, "wb") as rest:
                 shutil.copyfileobj(file, rest)
-            files.keep(made, f"{path}.torn")
+            files.keep(made, free(f"{path}.torn"))
         finally:
             files.remove(made)
         file.truncate(size)

@@ -43,7 +43,7 @@ def decree_of(text):
 class Network:
     def __init__(self, folder, plan, trouble=None, say=lambda text: None):
         self.folder, self.plan, self.trouble, self.lost = folder, plan, trouble, 0
-        self.record = Record(os.path.join(folder, "record"))
+        self.record = Record(os.path.join(folder, "record"), plan.text())
         words = [program("ksi_serve"), os.path.join(folder, "plan")]
         self.nodes = {
             name: Node(name, [*words, name, folder, f"{name}.facts"], self.record, self.route, say)

@@ -62,7 +62,7 @@ class Node:
         self.process, self.vain_starts, self.reason = None, 0, ""
         self.ready_lines, self.between = [], None
         self.owed, self.heard = 0, 0
-        """How many blocks the process owes for lines that were written to it, and how many blocks there were."""
+        """How many blocks the process owes for lines that were written to it, or its end; and how many blocks there were."""
 
     @property
     def restarts(self):
@@ -108,6 +108,7 @@ class Node:
         while self.flying and self.process.returncode is None:
             await asyncio.sleep(0.002)
         self.process.stdin.close()
+        self.owed += 1
         return await done
 
     def drop_cache(self):

@@ -4,6 +4,8 @@ from dataclasses import dataclass
 from functools import cached_property
 from typing import List, Tuple
 
+from .hours import Broken
+
 SECONDS = 1 << 24
 """How many seconds a plan has from its start on: 194 days."""
 MOST_LEVELS = 7
@@ -66,17 +68,23 @@ class Plan:
 
     @classmethod
     def read(cls, path):
+        """The plan of a file; Broken where it is none."""
         cores, start, parents = 0, 0, []
-        with open(path, encoding="ascii") as lines:
-            for line in lines:
-                words = line.split()
-                if words[:1] == ["cores"]:
-                    cores = int(words[1])
-                elif words[:1] == ["start"]:
-                    start = int(words[1])
-                elif words[:1] == ["aggregator"]:
-                    parents.append(words[3])
-        return cls(cores, start, tuple(parents))
+        try:
+            with open(path, encoding="ascii") as lines:
+                for line in lines:
+                    words = line.split()
+                    if words[:1] == ["cores"]:
+                        cores = int(words[1])
+                    elif words[:1] == ["start"]:
+                        start = int(words[1])
+                    elif words[:1] == ["aggregator"]:
+                        parents.append(words[3])
+            if parents_of(",".join(parents), cores) == tuple(parents):
+                return cls(cores, start, tuple(parents))
+        except (Odd, IndexError, ValueError):
+            pass
+        raise Broken(f"{path} is not the plan that was made")
 
     def told(self) -> str:
         """The plan in words, as the command takes it."""

@@ -95,6 +95,8 @@ class State:
         """The last entry of each node's own log."""
         self.sent: Dict[str, list] = {}
         """By NODE ID of a line whose messages are on their way: its step, and how many of them did not come yet."""
+        self.plan: Optional[str] = None
+        """The plan that the run is of, if its files tell it."""
         self.forgotten = 0
         """How many facts nodes were started without, of those that they had acknowledged, in what was read or added of the record."""
 
@@ -176,13 +178,14 @@ class State:
 
     def take_begins(self, state):
         self.steps, self.second, self.seen, self.sent = state["steps"], state["second"], state["seen"], state["sent"]
+        self.plan = state.get("plan")
         self.nodes = {name: NodeState(facts, deque((line, message) for line, message in lines), *before) for name, facts, lines, *before in state["nodes"]}
         return []
 
     def begins(self):
         """The entry from which `take` makes this state."""
         nodes = [[name, node.facts, list(node.unanswered), node.before] for name, node in self.nodes.items()]
-        return ["begins", {"steps": self.steps, "second": self.second, "nodes": nodes, "seen": self.seen, "sent": self.sent}]
+        return ["begins", {"steps": self.steps, "second": self.second, "nodes": nodes, "seen": self.seen, "sent": self.sent, "plan": self.plan}]
 
 
 def told(folder) -> Iterator[object]:
@@ -211,7 +214,7 @@ def text_of(entry):
 class Record:
     """A record that is added to. What is added is written and synced in groups; then the effects that wait for it happen."""
 
-    def __init__(self, folder):
+    def __init__(self, folder, plan=None):
         self.folder, self.bytes, self.failed, self.soon, self.closing = folder, 0, False, False, False
         self.ended = False
         """Whether nobody writes what is added any more, until it is closed: it failed, could not be cut, or is told to end."""
@@ -221,23 +224,24 @@ class Record:
         self.writer, self.packer = concurrent.futures.ThreadPoolExecutor(1), concurrent.futures.ThreadPoolExecutor(1)
         self.packing: List[concurrent.futures.Future] = []
         files.make_folder(folder)
-        self.recall()
+        self.recall(plan)
 
-    def recall(self):
-        """Reads the last file, cuts off what is behind its last whole line, and goes on there."""
+    def recall(self, plan):
+        """Reads the last file, cuts off what is behind its last whole line, and goes on there. A run has one plan, if one is told."""
         found = names(self.folder)
         for path in found[-1:]:
             files.drop_cache(path)
         self.state, whole = last_state(self.folder)
+        if None not in (plan, self.state.plan) and plan != self.state.plan:
+            raise Broken(f"{self.folder} is of another plan than the one beside it: bring that one back")
+        self.state.plan = plan or self.state.plan
         if not found or found[-1].endswith(".gz"):
             self.open_next(len(found) and int(os.path.basename(found[-1])[:8]))
         else:
             cut_off(found[-1], whole)
             self.number = int(os.path.basename(found[-1]))
             self.file = open(found[-1], "ab", buffering=0)
-        for path in found[:-1]:
-            if not path.endswith(".gz"):
-                self.pack(path)
+        self.pack_all()
 
     def open_next(self, number):
         """Begins the file behind this one."""
@@ -317,11 +321,14 @@ class Record:
         before = self.file
         self.open_next(self.number)
         before.close()
-        self.pack(before.name)
+        self.pack_all()
 
-    def pack(self, path):
+    def pack_all(self):
+        """Compresses all files but the last: also what there was no room for before."""
         self.packing = [it for it in self.packing if not it.done()]
-        self.packing.append(self.packer.submit(pack, path, lambda: self.closing))
+        for path in names(self.folder)[:-1]:
+            if not path.endswith(".gz"):
+                self.packing.append(self.packer.submit(pack, path, lambda: self.closing))
 
     async def close(self):
         """Writes what waits, behind what is on its way to the disk, and closes the file once its writer has ended. What takes too long to

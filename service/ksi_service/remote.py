@@ -6,10 +6,12 @@ import asyncio
 import collections
 import os
 import queue
+import secrets
 import threading
 import time
 
 from .forget import NotForgotten
+from .hours import Broken
 from .network import MOST_DECIDED, decree_of, second_of
 from .node import Down, Line
 from .record import Record
@@ -30,12 +32,18 @@ class RemoteNode:
     def __init__(self, name, network):
         self.name, self.network = name, network
         self.alive, self.restarts, self.refused, self.process = False, 0, 0, None
+        self.run = None
+        """Which run of its host is there, or None."""
 
     def send(self, line):
         if self.alive:
             self.network.put(self.name, line)
         else:
             line.fail(self.name)
+
+    def come(self, run):
+        """It has taken all that waited for it, if that is the run which is there now."""
+        self.alive = run == self.run
 
     async def ask(self, text):
         line = Line(text)
@@ -76,7 +84,7 @@ class Merge:
 class RemoteNetwork:
     def __init__(self, folder, plan, url, say=lambda text: None):
         self.plan, self.url, self.say, self.lost = plan, url, say, 0
-        self.record = Record(os.path.join(folder, "record"))
+        self.record = Record(os.path.join(folder, "record"), plan.text())
         self.nodes = {name: RemoteNode(name, self) for name in plan.names()}
         self.merge = Merge(self.record, {name: collections.deque() for name in self.nodes})
         self.flights = collections.defaultdict(collections.Counter)
@@ -108,6 +116,18 @@ class RemoteNetwork:
         if not client.set("ksi:plan", self.plan.text(), nx=True) and client.get("ksi:plan") != self.plan.text():
             raise Down("the server has another plan: use another database of it, or this plan's folder")
 
+    def see_whole(self, client):
+        """Sees that each log on the server goes on where the record ends: what is on the record's disk was cut off, but for the last."""
+        for name in self.nodes:
+            log, last = f"ksi:log:{name}", self.record.state.seen.get(name)
+            if last is None:
+                entries = [fields for _, entries in client.xread({log: "0"}, count=1) or [] for _, fields in entries]
+                goes_on = all("ready" in it and "restart" not in it for it in entries)
+            else:
+                goes_on = client.xrevrange(log, last, last, count=1)
+            if not goes_on:
+                raise Broken(f"the record does not end where the server's log of {name} goes on: bring back the record's last state")
+
     async def thread(self, work):
         """Runs work in a thread of its own until the network ends."""
         done, loop = asyncio.get_running_loop().create_future(), asyncio.get_running_loop()
@@ -122,9 +142,12 @@ class RemoteNetwork:
         await done
 
     def read(self, loop):
-        """Reads what the nodes did, and who is there, in a thread. Nothing is sent to a node before the plan is the server's."""
-        client = connect(self.url)
+        """Reads what the nodes did, and who is there, in a thread. Nothing is sent to a node before the plan is the server's. Of two heads
+        the one that was started last goes on: each cuts off the logs what the other one may lack."""
+        client, run = connect(self.url), secrets.token_hex(8)
         patiently(lambda: self.begin_plan(client), self.say)
+        patiently(lambda: self.see_whole(client), self.say)
+        patiently(lambda: client.set("ksi:head", run), self.say)
         seen = {f"ksi:log:{name}": self.record.state.seen.get(name, "0") for name in self.nodes}
         seen.update(patiently(lambda: {it: last_of(client, it) for it in (f"ksi:said:{name}" for name in self.nodes)}, self.say))
         looked, trimmed, away = 0.0, 0.0, False
@@ -134,7 +157,9 @@ class RemoteNetwork:
                 there = None
                 if time.monotonic() - looked > ALIVE_MILLISECONDS / 5000:
                     looked = time.monotonic()
-                    there = client.mget([f"ksi:alive:{name}" for name in self.nodes])
+                    *there, head = client.mget([*(f"ksi:alive:{name}" for name in self.nodes), "ksi:head"])
+                    if head != run:
+                        raise Broken("another head runs by now, or the server lost what it was told")
                 if time.monotonic() - trimmed > TRIM_SECONDS:
                     trimmed = time.monotonic()
                     self.trim(client)
@@ -176,10 +201,8 @@ class RemoteNetwork:
     def take(self, found, there):
         """What the reader has found: entries of logs, answers, and who is there."""
         for node, run in zip(self.nodes.values(), there or []):
-            if node.alive and not run:
-                self.say(f"{node.name} is away")
-                self.give_up(node)
-            node.alive = bool(run)
+            if run != node.run:
+                self.changed(node, run)
         for stream, entries in found:
             _, kind, name = stream.split(":")
             for number, fields in entries:
@@ -191,6 +214,18 @@ class RemoteNetwork:
             self.stand(name, number, fields)
         self.moved.set()
         self.moved = asyncio.Event()
+
+    def changed(self, node, run):
+        """Takes it that another run of a node's host is there, or none. It is up once it answers a question, which stands behind all that
+        waited for it."""
+        if node.alive:
+            self.say(f"{node.name} is away")
+        self.give_up(node)
+        node.alive, node.run = False, run
+        if run:
+            line = Line(f"held {self.plan.start} 1" if node.name[0] == "c" else "sign 0")
+            line.answer.add_done_callback(lambda answer: answer.exception() or node.come(run))
+            self.put(node.name, line)
 
     async def forget(self, aggregator, before):
         """Lets an aggregator's host forget rounds of seconds before this one. Returns how many facts are left, and how many there were."""

@@ -1,6 +1,7 @@
 """The service: nodes, clock, record, publications and door, over one folder."""
 import asyncio
 import collections
+import contextlib
 import gc
 import os
 import resource
@@ -13,6 +14,7 @@ from . import extension, files
 from .calendar import Calendar
 from .clock import MOST_WAITING, Busy, Clock, NotSigned
 from .door import MOST_ACCEPTED, MOST_CONNECTIONS, Answer, Door, signature_answer
+from .hours import Broken
 from .metrics import Spans, memory
 from .network import Network
 from .node import Down
@@ -31,20 +33,25 @@ ANSWER_SECONDS = 60
 LAST_SECONDS = 5
 """How long a service that is told to stop still waits for requests that it has taken, and then for its last publication."""
 OTHER_FILES = MOST_ACCEPTED + 1024
-"""How many files may be open beside the connections that are served."""
+"""How many files may be open beside the connections that are served, and beside those of nodes."""
+FILES_OF_NODE = 3
+"""Two pipes, and the number of its process."""
 MOST_EXTENDING, MOST_TO_EXTEND = 4, 64
 """How many signatures are extended at once, and how many may wait for it."""
 
 
 def say(text):
-    """One line for an event worth knowing."""
-    print(text, file=sys.stderr, flush=True)
+    """One line for an event worth knowing. What cannot be told, as on a full disk, ends nothing."""
+    with contextlib.suppress(OSError):
+        print(text, file=sys.stderr, flush=True)
 
 
 def plan_of(folder, cores=None, aggregators=None):
     """The plan of a folder, which is made where there is none. What is asked for has to be what an old folder has."""
     path = os.path.join(folder, "plan")
     if not os.path.exists(path):
+        if os.path.exists(os.path.join(folder, "record")):
+            raise Broken(f"{path} is not there, and the folder has a record: bring it back")
         parents = parents_of(aggregators or AGGREGATORS, cores or CORES)
         files.write(path, Plan(cores or CORES, int(time.time()) + 1, parents).text().encode())
     plan = Plan.read(path)
@@ -131,7 +138,7 @@ class Service:
     def __init__(self, folder, plan, publish_every=3600, most_waiting=MOST_WAITING, cut_every=3600, forget_every=3600, over="pipes", trouble=None):
         self.folder, self.plan, self.publish_every, self.cut_every, self.forget_every = folder, plan, publish_every, cut_every, forget_every
         self.network = Network(folder, plan, trouble, say) if over == "pipes" else RemoteNetwork(folder, plan, over, say)
-        self.clock = Clock(self.network, most_waiting)
+        self.clock = Clock(self.network, most_waiting, say=say)
         self.resting = Resting(self.clock, say)
         self.publications, self.calendar = Publications(folder), Calendar(plan.start)
         self.publishing, self.clock.on_published = asyncio.Lock(), self.publish
@@ -234,14 +241,15 @@ class Service:
             task.result()
 
 
-def open_files(most):
+def open_files(most, nodes):
     """Lets the process have so many connections open, or as many as it may. Returns how many. Beside them there is room for those that
     are accepted at once, for nodes and for the record: a host that could not open its record would end."""
     soft, hard = resource.getrlimit(resource.RLIMIT_NOFILE)
-    wanted = most + OTHER_FILES if hard == resource.RLIM_INFINITY else min(most + OTHER_FILES, hard)
+    others = OTHER_FILES + FILES_OF_NODE * nodes
+    wanted = most + others if hard == resource.RLIM_INFINITY else min(most + others, hard)
     if soft < wanted:
         resource.setrlimit(resource.RLIMIT_NOFILE, (wanted, hard))
-    return min(most, max(wanted - OTHER_FILES, wanted // 8))
+    return min(most, max(wanted - others, wanted // 8))
 
 
 async def first_of(end, work):
@@ -279,7 +287,7 @@ async def run(folder, cores=None, aggregators=None, address=("127.0.0.1", 8080),
     for number in (signal.SIGINT, signal.SIGTERM):
         asyncio.get_running_loop().add_signal_handler(number, told.set)
     house = House(service)
-    door = service.door = Door(house, open_files(MOST_CONNECTIONS))
+    door = service.door = Door(house, open_files(MOST_CONNECTIONS, len(service.network.nodes)))
     end, extra = asyncio.create_task(told.wait()), [asyncio.create_task(trouble_with(service))] if trouble_with else []
     try:
         await first_of(end, asyncio.create_task(service.begin()))

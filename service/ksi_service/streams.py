@@ -1,6 +1,7 @@
 """Redis Streams as the carrier of lines between machines, and the host of one node on its own machine.
 
     ksi:plan          the plan, a string
+    ksi:head          which run of a head is there
     ksi:to:NODE       lines for a node: line, and from (NODE ID PLACE, of the line that made it and which of its messages it is) or ask
     ksi:log:NODE      what the node did: id, line, from, ask, said (its block), or unsaid; or ready and, but for the first start, restart
     ksi:said:NODE     what changed nothing: ask, said. Refusals, answers to questions and what was forgotten; the last few thousand are kept
@@ -16,11 +17,12 @@ import re
 import secrets
 import subprocess
 import sys
+import threading
 import time
 
 from . import files
 from .forget import Left
-from .node import FIRST_PAUSE, MOST_VAIN_STARTS, GivenUp, LostFacts
+from .node import FIRST_PAUSE, MOST_VAIN_STARTS, SILENT_SECONDS, GivenUp, LostFacts
 from .programs import Missing as MissingProgram
 from .programs import program
 from .proved import Refused
@@ -75,10 +77,25 @@ class Ended(Exception):
 class Process:
     """The process of a node, and its blocks."""
 
-    def __init__(self, words):
+    def __init__(self, words, say=lambda text: None):
         self.child = subprocess.Popen(words, stdin=subprocess.PIPE, stdout=subprocess.PIPE, stderr=subprocess.DEVNULL)
+        self.say, self.ended = say, threading.Event()
+        self.owed, self.heard = 0, 0
+        """How many blocks it owes for lines, or its end; and how many there were."""
+        threading.Thread(target=self.watch, daemon=True).start()
+
+    def watch(self):
+        """Kills the process if it is silent, as one that is stopped, or whose disk does not return."""
+        owed, heard = 0, 0
+        while not self.ended.wait(SILENT_SECONDS):
+            if owed and heard == self.heard:
+                self.say("is silent, and is killed")
+                self.child.kill()
+            owed, heard = self.owed, self.heard
 
     def give(self, lines):
+        lines = list(lines)
+        self.owed += len(lines)
         try:
             self.child.stdin.write("".join(f"{it}\n" for it in lines).encode())
             self.child.stdin.flush()
@@ -91,16 +108,19 @@ class Process:
             if not row.endswith(b"\n"):
                 raise Ended(" ".join(rows))
             rows.append(row[:-1].decode("ascii", "replace"))
+        self.owed, self.heard = max(0, self.owed - 1), self.heard + 1
         return rows
 
     def end(self):
         """Ends the input; what was not taken of it is gone with the process."""
+        self.owed += 1
         try:
             self.child.stdin.close()
         except OSError:
             pass
         self.child.stdout.close()
         self.child.wait()
+        self.ended.set()
 
 
 class NodeHost:
@@ -111,6 +131,8 @@ class NodeHost:
         self.to, self.log, self.said = (f"ksi:{it}:{name}" for it in ("to", "log", "said"))
         self.process, self.facts, self.before, self.vain, self.serial = None, 0, None, 0, 0
         self.run_id, self.pending, self.told_alive = secrets.token_hex(8), [], 0.0
+        self.last, self.has_begun = None, False
+        """The last transaction for this node, and whether it was this host's."""
         self.forgotten = None
         """A line that was to forget, and what is said to it with the next start."""
 
@@ -131,7 +153,11 @@ class NodeHost:
     def prepare(self):
         """Gets the plan, once it is there, and makes the stream's group."""
         import redis
+        told = False
         while not (plan := self.client.get("ksi:plan")):
+            if not told:
+                self.say(f"{self.name} waits for a head: the server has no plan yet")
+            told = True
             time.sleep(0.2)
         path = os.path.join(self.folder, "plan")
         if files.content_of(path) not in (None, plan.encode()):
@@ -149,7 +175,7 @@ class NodeHost:
         # the name of a file of which rounds were forgotten, before a node adds to it
         files.sync_folder(self.folder)
         files.drop_cache(os.path.join(*words[-2:]))
-        self.process = Process(words)
+        self.process = Process(words, lambda text: self.say(f"{self.name} {text}"))
         try:
             self.begin(self.process.block())
             while not self.is_to_forget(lines := self.lines()):
@@ -167,6 +193,8 @@ class NodeHost:
 
     def begin(self, block):
         """Sees which of the lines that were given and not acknowledged happened, by the count of facts."""
+        if not self.has_begun:
+            self.last = self.patiently(lambda: self.client.get(f"ksi:done:{self.name}"))
         known = self.patiently(lambda: self.client.get(f"ksi:facts:{self.name}"))
         told, self.forgotten = self.forgotten, None
         self.pending = [it for it in self.patiently(self.unacknowledged) if told is None or it[0] != told[0]]
@@ -175,15 +203,17 @@ class NodeHost:
             storing = [at for at, (_, fields) in enumerate(self.pending) if word(fields["line"]) in MAY_STORE]
             if found != counts[0] + 1 or not storing:
                 raise LostFacts(f"{self.name} acknowledged {known or 0} facts and found {found}")
-            happened, self.pending = self.pending[:storing[0] + 1], self.pending[storing[0] + 1:]
+            gone, rest = self.pending[:storing[0] + 1], self.pending[storing[0] + 1:]
+            # a question changed nothing, and who asked waits: it is asked again
+            questions = [it for it in gone if word(it[1]["line"]) in QUESTIONS]
+            happened, self.pending = [it for it in gone if it not in questions], questions + rest
         self.facts, self.before = found, None
 
         def fill(commit):
             if told is not None:
                 self.answer(commit, *told)
             for number, fields in happened:
-                if word(fields["line"]) not in QUESTIONS:
-                    commit.xadd(self.log, {"id": number, **fields, "unsaid": 1})
+                commit.xadd(self.log, {"id": number, **fields, "unsaid": 1})
                 self.settle(commit, number)
             commit.xadd(self.log, {"ready": found, **({"restart": 1} if known is not None else {})})
         self.commit(fill)
@@ -281,22 +311,32 @@ class NodeHost:
         except errors():
             self.patiently(lambda: self.transact(fill, serial, look=True))
 
+    def between(self):
+        """What a transaction of another host means: one that was killed did it before this one began, or it runs the node by now."""
+        if self.has_begun:
+            return LostFacts(f"another host runs {self.name} by now, or the server lost what it was told")
+        return Ended("as another host did something meanwhile")
+
     def transact(self, fill, serial, look):
         """A transaction that fails if another one of this host comes between: one whose connection was lost may still be on its way. The
-        client calls a connection that is lost meanwhile a change of what is watched, too."""
+        client calls a connection that is lost meanwhile a change of what is watched, too. It goes on from the last one that this host
+        knows: a node that ran twice would vote twice."""
         import redis
         done = f"ksi:done:{self.name}"
         with self.client.pipeline(transaction=True) as commit:
             while True:
                 try:
                     commit.watch(done)
-                    if look and commit.get(done) == serial:
-                        return
-                    commit.multi()
-                    fill(commit)
-                    commit.set(f"ksi:facts:{self.name}", self.facts if self.before is None else f"{self.facts} {self.before}")
-                    commit.set(done, serial)
-                    commit.execute()
+                    last = commit.get(done)
+                    if not (look and last == serial):
+                        if last != self.last:
+                            raise self.between()
+                        commit.multi()
+                        fill(commit)
+                        commit.set(f"ksi:facts:{self.name}", self.facts if self.before is None else f"{self.facts} {self.before}")
+                        commit.set(done, serial)
+                        commit.execute()
+                    self.last, self.has_begun = serial, True
                     return
                 except redis.WatchError:
                     commit.reset()

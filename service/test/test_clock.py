@@ -128,6 +128,20 @@ class ClockTest(Clocked):
         self.assertRaises(clocks.PlanEnded, self.play, work)
         self.assertEqual(seen, [2])
 
+    def test_what_no_core_publishes_is_told(self):
+        """As where a majority is away: a plan that ends so does not say that all is well."""
+        said = []
+
+        async def no_core(*_):
+            return None
+
+        async def work(_, clock):
+            with mock.patch.object(clock, "publish", no_core), mock.patch.object(clocks, "SECONDS", 3):
+                await clock.run(clock.plan.start, 2)
+        with self.assertRaisesRegex(clocks.PlanEnded, "is not published: .* start again"):
+            self.play(work, say=said.append)
+        self.assertRegex(said[-1], "^second [0-9]+ is not published: no core that is up holds all")
+
     def test_what_was_decided_is_forgotten_in_time(self):
         async def work(network, _):
             for second in range(5000):

@@ -3,6 +3,7 @@ import contextlib
 import io
 import json
 import os
+import sqlite3
 import subprocess
 import tempfile
 import threading
@@ -91,10 +92,38 @@ class CommandTest(unittest.TestCase):
         while files.is_held(self.folder):
             time.sleep(0.05)
 
+    def test_a_log_that_says_nothing_is_told_as_that(self):
+        """Where the disk is full, there is nothing to see in it."""
+        with mock.patch.object(command.sys, "argv", ["/dev/null", "start", self.folder]):
+            self.assertIn("its log says nothing, as on a full disk", self.command("start", self.folder, status=1))
+
     def test_a_proxy_of_the_machine_is_not_asked(self):
         self.serve()
         with mock.patch.dict(os.environ, http_proxy="http://127.0.0.1:9", no_proxy=""):
             self.assertIn("signed", self.command("status", self.folder))
+
+    def test_a_signature_that_is_there_is_not_replaced(self):
+        """It may be years older than the one that would take its place."""
+        name = os.path.join(self.room.name, "deed")
+        for path, content in ((name, b"I owe you one."), (f"{name}.ksig", b"older")):
+            files.write(path, content)
+        with mock.patch.object(command, "ask", lambda *_: b"newer"):
+            self.assertIn("deed.ksig is there already", self.command("sign", name, status=1))
+            self.assertIn("signed", self.command("sign", name, "-o", f"{name}.second"))
+            self.assertIn("is there already", self.command("sign", name, "-o", f"{name}.second", status=1))
+        self.assertEqual((files.content_of(f"{name}.ksig"), files.content_of(f"{name}.second")), (b"older", b"newer"))
+
+    def test_publications_take_the_place_of_the_same_ones_alone(self):
+        """Who verifies against an older plan has to keep its publications file too."""
+        out, roots = os.path.join(self.room.name, "publications"), [(5, "1" * 64), (9, "2" * 64), (12, "3" * 64)]
+        for told, status in ((roots[:1], 0), (roots[:2], 0), (roots[1:], 1), ([*roots[:1], (9, "4" * 64)], 1), (roots, 0)):
+            with mock.patch.object(command, "ask", lambda *_, told=told: publications_file(told)):
+                self.assertIn("saved" if status == 0 else "has publications that are none of", self.command("publications", "-o", out, status=status))
+        self.assertEqual(files.content_of(out), publications_file(roots))
+        files.write(out, b"a letter")
+        with mock.patch.object(command, "ask", lambda *_: publications_file(roots)):
+            self.assertIn("is no publications file", self.command("publications", "-o", out, status=1))
+        self.assertEqual(files.content_of(out), b"a letter")
 
     def test_another_user_may_ask(self):
         self.serve()
@@ -108,11 +137,25 @@ class CommandTest(unittest.TestCase):
         finally:
             os.seteuid(user)
 
+    def test_a_service_that_starts_is_not_called_absent(self):
+        """Its nodes may read their files for minutes. Who is told to start it would be told then that another one runs."""
+        self.held()
+        for word in ("stop", "status"):
+            told = self.command(word, self.folder, status=1)
+            self.assertIn("is in use, and its door is not open: a service starts or stops", told)
+            self.assertNotIn("ksi-service start", told)
+
+    def test_a_door_that_closes_in_the_middle_of_an_answer_is_told(self):
+        self.serve()
+        with mock.patch.object(Status, "send_header", lambda it, name, _: BaseHTTPRequestHandler.send_header(it, name, "99")):
+            self.assertIn("does not answer", self.command("status", self.folder, status=1))
+
     def test_who_was_killed_is_not_stopped_while_somebody_checks_the_folder(self):
         """The number that it left may be another process's by now."""
         with subprocess.Popen(["sleep", "60"]) as other:
             self.addCleanup(other.kill)
             self.door("127.0.0.1:9", other.pid)
+            files.write(os.path.join(self.folder, "plan"), b"")
 
             def check(*_, **__):
                 self.assertIn("no service runs", self.command("stop", self.folder, status=1))
@@ -121,6 +164,20 @@ class CommandTest(unittest.TestCase):
                 self.command("check", self.folder)
             self.assertIsNone(other.poll())
             other.kill()
+
+    def test_a_folder_that_was_no_services_is_left_as_it_is(self):
+        """As one that was misspelled: nothing in it is removed."""
+        self.door("127.0.0.1:9", 1)
+        for words in (("check", self.folder), ("backup", self.folder, self.room.name), ("forget", self.folder)):
+            self.assertIn("has no plan: it was no service's", self.command(*words, status=1))
+        self.assertEqual(os.listdir(self.folder), ["door"])
+        self.assertIn("has no plan", self.command("check", os.path.join(self.room.name, "absent"), status=1))
+
+    def test_a_check_that_lacks_room_is_told(self):
+        """`check --by-node` has what was said in a file of the system's folder for such, which may be small."""
+        files.write(os.path.join(self.folder, "plan"), b"")
+        with mock.patch.object(command.checking, "check", side_effect=sqlite3.OperationalError("database or disk is full")):
+            self.assertIn("ksi-service: database or disk is full", self.command("check", self.folder, "--by-node", status=1))
 
     def test_a_node_that_ends_before_it_is_asked_is_told(self):
         path = os.path.join(self.room.name, stands.NODE)

@@ -2,9 +2,13 @@
 import os
 import re
 import shlex
+import shutil
+import subprocess
+import tempfile
 import unittest
 
 import stands
+from ksi_service import files
 from ksi_service.command import parser_of
 
 DEPLOY = os.path.join(os.path.dirname(stands.HERE), "deploy")
@@ -23,6 +27,17 @@ class DeployTest(unittest.TestCase):
             self.assertEqual((words.command, words.folder.startswith("/var/lib/ksi/")), (word, True), name)
             self.assertIn("StateDirectory=ksi\n", content_of(name))
         self.assertTrue(content_of("ksi.sysusers").startswith("u ksi "))
+
+    @unittest.skipUnless(shutil.which("systemd-analyze"), "systemd-analyze is not here, so the units are not looked at")
+    def test_units_are_as_systemd_takes_them_and_closed(self):
+        """By its own measure, which calls 3.0 of 10 and less closed: a program that was broken into reaches little else."""
+        with tempfile.TemporaryDirectory() as room:
+            for name in ("ksi-service.service", "ksi-head.service", "ksi-node@.service"):
+                path = os.path.join(room, name.replace("@", "@c0"))
+                files.write(path, content_of(name).replace("@PREFIX@/bin/ksi-service", "/bin/true").encode())
+                for words in (["verify"], ["security", "--offline=yes", "--threshold=30"]):
+                    told = subprocess.run(["systemd-analyze", "--no-pager", *words, path], capture_output=True, text=True, check=False)
+                    self.assertEqual((told.returncode, told.stderr), (0, ""), (name, told.stdout[-200:]))
 
     def test_containers_run_the_command(self):
         try:

@@ -214,6 +214,13 @@ class FilesTest(unittest.TestCase):
             files.write(self.path, b"two")
         self.assertEqual((files.content_of(self.path), os.listdir(self.room.name)), (b"one", ["file"]))
 
+    def test_a_file_that_is_replaced_keeps_its_mode(self):
+        """As a signature that others may not read, when it is extended."""
+        files.write(self.path, b"one")
+        os.chmod(self.path, 0o600)
+        files.write(self.path, b"two")
+        self.assertEqual((files.content_of(self.path), os.stat(self.path).st_mode & 0o777), (b"two", 0o600))
+
     def test_the_names_of_new_folders_are_on_the_disk(self):
         synced, room = [], os.path.realpath(self.room.name)
         with mock.patch("os.fsync", lambda number: synced.append(os.readlink(f"/proc/self/fd/{number}"))):
@@ -229,6 +236,26 @@ class FilesTest(unittest.TestCase):
         held.close()
         self.assertFalse(files.is_held(self.room.name))
         files.lock(self.room.name).close()
+
+    @unittest.skipIf(os.geteuid(), "not root: a folder of another user is closed to this one")
+    def test_root_runs_nothing_over_a_folder_of_another_user(self):
+        """That user could not open what root leaves, as the file of an aggregator that forgot."""
+        path = os.path.join(self.room.name, "lock")
+        files.write(path, b"")
+        os.chown(path, 65534, 65534)
+        self.assertFalse(files.is_held(self.room.name))
+        with self.assertRaisesRegex(files.Foreign, "lock is of the user nobody"):
+            files.lock(self.room.name)
+        os.chown(path, 54321, 54321)
+        with self.assertRaisesRegex(files.Foreign, "lock is of the user 54321"):
+            files.lock(self.room.name)
+        os.chown(path, 0, 0)
+        files.lock(self.room.name).close()
+
+    def test_a_file_system_without_locks_is_no_other_service(self):
+        with mock.patch("fcntl.flock", side_effect=OSError(37, "No locks available")):
+            with self.assertRaisesRegex(OSError, "No locks available: .*/lock"):
+                files.lock(self.room.name)
 
     def test_who_looks_whether_a_folder_is_held_keeps_nobody_out(self):
         looking = files.lock_of(os.path.join(self.room.name, "lock"), "", fcntl.LOCK_SH)

@@ -1,5 +1,6 @@
 """The files of a record: compressed, damaged, or not there."""
 import os
+import tempfile
 import time
 import unittest
 from unittest import mock
@@ -41,6 +42,16 @@ class HoursTest(Recorded):
         self.assertEqual(self.opened().state.steps, 1)
         self.assertEqual((names(self.folder), len(list(told(self.folder)))), ([path], 1))
 
+    def test_what_there_was_no_room_for_is_compressed_at_the_next_cut(self):
+        async def work(record):
+            with mock.patch.object(hours.gzip, "open", side_effect=OSError(28, "No space left on device")):
+                await record.cut()
+                record.packing[-1].result()
+            self.assertEqual([os.path.basename(it) for it in names(self.folder)], ["00000001", "00000002"])
+            await record.cut()
+        self.opened(work)
+        self.assertEqual([os.path.basename(it) for it in names(self.folder)], ["00000001.gz", "00000002.gz", "00000003"])
+
     def test_what_takes_too_long_to_compress_is_left_whole(self):
         async def work(record):
             record.add(["given", "c0", "x" * (3 << 20), None])
@@ -66,6 +77,18 @@ class HoursTest(Recorded):
         with open(os.path.join(self.folder, "00000001.gz"), "wb") as file:
             file.write(b"half of it")
         self.assertEqual(len(list(told(self.folder))), 1)
+
+
+class TornTest(unittest.TestCase):
+    def test_what_was_cut_off_before_is_kept_too(self):
+        """It may be all that there is of what a disk damaged, and the power may fail again in that hour."""
+        with tempfile.TemporaryDirectory() as room:
+            path = os.path.join(room, "00000001")
+            for rest in (b"one", b"two", b"three", b""):
+                files.write(path, b"whole" + rest)
+                hours.cut_off(path, 5)
+            kept = {name: files.content_of(os.path.join(room, name)) for name in sorted(os.listdir(room))}
+        self.assertEqual(kept, {"00000001": b"whole", "00000001.torn": b"one", "00000001.torn.1": b"two", "00000001.torn.2": b"three"})
 
 
 if __name__ == "__main__":

@@ -1,6 +1,7 @@
 """Nodes that are not proved ones, and die on demand: what the record tells after a kill, and after one of the host."""
 import asyncio
 import os
+import signal
 import sys
 import tempfile
 import unittest
@@ -79,6 +80,19 @@ class NodeTest(unittest.TestCase):
         with mock.patch.object(nodes, "SILENT_SECONDS", 0.3):
             self.assertEqual(self.play(work)[0], ((1, ["answer done"]), [Down, Down], ["answer done"]))
         self.assertEqual(self.log, ["c0 is silent, and is killed", "c0 was killed by signal 9, and is started again"])
+
+    def test_a_node_that_is_to_rest_and_does_not_end_is_killed(self):
+        async def work(node):
+            async def between():
+                return "done"
+            node.process.send_signal(signal.SIGSTOP)
+            done = await asyncio.wait_for(node.rest(between), 10)
+            while not node.alive:
+                await asyncio.sleep(0.005)
+            return done, await node.ask("tell 7")
+        with mock.patch.object(nodes, "SILENT_SECONDS", 0.3):
+            self.assertEqual(self.play(work)[0], ("done", ["answer done"]))
+        self.assertEqual(self.log, ["c0 is silent, and is killed"])
 
     def test_a_step_that_was_not_stored_left_no_trace(self):
         async def work(node):

@@ -262,12 +262,27 @@ restart c0
         with open(os.path.join(self.room.name, "entries"), encoding="ascii") as file:
             self.assertEqual(file.read(), "".join(retrace.entries(self.folder)))
 
+    def test_a_record_is_of_one_plan(self):
+        """As where a person changed to whom an aggregator submits: its file does not tell that."""
+        self.opened()
+        plans = [Plan(1, 5, parents).text() for parents in (("c0", "c0"), ("c0", "a0"))]
+
+        async def cut(plan):
+            record = Record(self.folder, plan)
+            await record.cut()
+            await record.close()
+        for _ in range(2):
+            asyncio.run(cut(plans[0]))
+        with self.assertRaisesRegex(Broken, "is of another plan"):
+            asyncio.run(cut(plans[1]))
+        asyncio.run(cut(plans[0]))
+
     def test_what_ends_before_it_has_read_all_is_heard(self):
         """As where an early entry differs, and more is behind it than a pipe holds."""
         said = [["given", "c0", f"tell 5 {ONES}", None], ["said", "c0", ["answer done"]]]
         self.write(["ready", "c0", 0, 0], *said * 5000)
         plan, path = os.path.join(self.room.name, "plan"), os.path.join(self.room.name, "ksi_retrace")
-        files.write(plan, Plan(1, 5, ()).text().encode())
+        files.write(plan, Plan(1, 5, ("c0",)).text().encode())
         files.write(path, b"#!/bin/sh\necho differs 2 9; exit 1\n")
         os.chmod(path, stat.S_IRWXU)
         with mock.patch.dict(os.environ, KSI_BIN=self.room.name):

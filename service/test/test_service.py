@@ -3,9 +3,12 @@ import concurrent.futures
 import gzip
 import http.client
 import os
+import subprocess
+import sys
 import time
 import unittest
 
+import stands
 from ksi_service import hours, record
 from ksi_service.elements import published_in
 from served import REAL, Served, imprint
@@ -92,6 +95,18 @@ class ServiceTest(Served):
             self.assertEqual((found.signatures, found.extended), (41, 10))
         with open(os.path.join(self.folder, "publications"), "rb") as file:
             self.assertGreater(published_in(file.read())[-1][0], began)
+
+    def test_a_log_that_cannot_be_written_ends_nothing(self):
+        """As one on a disk that is full, or whose reader has ended."""
+        with open("/dev/full", "w", encoding="ascii") as full, subprocess.Popen(
+                [sys.executable, stands.COMMAND, "run", self.folder, "--door", "127.0.0.1:0"], stderr=full, env=self.outside) as host:
+            self.addCleanup(host.kill)
+            while host.poll() is None and not os.path.exists(os.path.join(self.folder, "door")):
+                time.sleep(0.05)
+            self.assertIsNone(host.poll())
+            self.assertEqual(self.ask("/sign", imprint(1))[0], 200)
+            self.assertIn("stopped", self.command("stop"))
+            self.assertEqual(host.wait(20), 0)
 
     def test_a_host_that_was_killed_leaves_no_service_to_be_stopped(self):
         self.start()
