@@ -36,6 +36,16 @@ assert ran.stderr.splitlines()[-1].startswith("ImportError: /absent") and "KSI_L
 assert ksi.verify(bytearray(signature), memoryview(right), array.array("B", publications)).accepted and ksi.digest(bytearray(b"abc")) == wrong
 
 
+class Long(bytes):
+    def __len__(self):
+        return 1 << 16
+
+
+# nothing is read behind the bytes, whatever a class of its own says of its length
+assert ksi.digest(Long(b"abc")) == wrong and ksi.verify(Long(signature), Long(right), Long(publications)).accepted
+assert len(list(ksi.steps(Long(signature)))) == 32
+
+
 class Counted:
     def __len__(self):
         return 32

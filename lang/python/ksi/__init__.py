@@ -101,8 +101,8 @@ class Step(typing.NamedTuple):
 
 
 def _bytes_of(it):
-    """The bytes that an object lends. A number lends none, though `bytes` makes so many zeros of it."""
-    return it if isinstance(it, bytes) else bytes(memoryview(it))
+    """The bytes that an object lends, which have the length that `len` says. A number lends none, though `bytes` makes so many zeros of it."""
+    return it if type(it) is bytes else bytes(memoryview(it))
 
 
 def verify(signature: bytes, digest: bytes, publications: bytes) -> Answer:
