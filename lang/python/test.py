@@ -28,9 +28,11 @@ assert (answer.status, answer.file, answer.name, answer.numbers[0]) == (ksi.MALF
 answer = ksi.verify(signature, right, signature)
 assert (answer.status, answer.file, answer.name) == (ksi.MALFORMED, ksi.PUBLICATIONS, "Q1"), answer
 
-# without the library, the words say how it is found
-ran = subprocess.run([sys.executable, "-c", "import ksi"], env={**os.environ, "KSI_LIBRARY": "/absent"}, capture_output=True, text=True)
-assert ran.stderr.splitlines()[-1].startswith("ImportError: /absent") and "KSI_LIBRARY" in ran.stderr.splitlines()[-1], ran.stderr
+# without the library, or with another one, the words say how it is found
+for other in ["/absent", "libc.so.6"]:
+    ran = subprocess.run([sys.executable, "-c", "import ksi"], env={**os.environ, "KSI_LIBRARY": other}, capture_output=True, text=True)
+    last = ran.stderr.splitlines()[-1]
+    assert last.startswith("ImportError: ") and other in last and "KSI_LIBRARY" in last, ran.stderr
 
 # whatever lends bytes is taken, and nothing else; a digest is counted in bytes
 assert ksi.verify(bytearray(signature), memoryview(right), array.array("B", publications)).accepted and ksi.digest(bytearray(b"abc")) == wrong

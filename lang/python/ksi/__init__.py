@@ -13,11 +13,17 @@ SIGNATURE, PUBLICATIONS = 1, 3
 
 
 def _loaded():
+    """The library, whose interface is compared before any other function is looked for."""
     path = os.environ.get("KSI_LIBRARY") or os.path.join(os.path.dirname(os.path.abspath(__file__)), "libksi.so")
     try:
-        return ctypes.CDLL(path)
-    except OSError as error:
+        library = ctypes.CDLL(path)
+        abi = library.ksi_abi
+    except (OSError, AttributeError) as error:
         raise ImportError(f"{error}; the wheel has libksi.so, and without it KSI_LIBRARY names one") from error
+    abi.restype, abi.argtypes = ctypes.c_uint32, ()
+    if abi() != ABI:
+        raise ImportError("libksi has another interface than this module")
+    return library
 
 
 _library = _loaded()
@@ -45,15 +51,12 @@ def _function(name, result, *arguments):
     return function
 
 
-_abi = _function("ksi_abi", ctypes.c_uint32)
 _hash = _function("ksi_hash", None, *_bytes, ctypes.c_char_p)
 _start = _function("ksi_hash_start", None, ctypes.POINTER(_Hasher))
 _more = _function("ksi_hash_more", None, ctypes.POINTER(_Hasher), *_bytes)
 _end = _function("ksi_hash_end", None, ctypes.POINTER(_Hasher), ctypes.c_char_p)
 _verify = _function("ksi_verify", ctypes.c_uint32, *_bytes, ctypes.c_char_p, *_bytes, ctypes.POINTER(_Answer))
 _step = _function("ksi_step", ctypes.c_uint32, *_bytes, ctypes.c_size_t, ctypes.POINTER(_Step))
-if _abi() != ABI:
-    raise ImportError("libksi has another interface than this module")
 
 
 class Answer(typing.NamedTuple):
