@@ -10,11 +10,23 @@ def read(name):
         return file.read()
 
 
+def refuses(error, call, *words):
+    try:
+        call(*words)
+    except error:
+        return
+    raise AssertionError((call, words))
+
+
 signature, document, publications = read("deed.ksig"), read("deed.txt"), read("publications.bin")
 right, wrong = hashlib.sha256(document).digest(), hashlib.sha256(b"abc").digest()
 for size in [*range(0, 200), 4096, 100001]:
     assert ksi.digest(b"x" * size) == hashlib.sha256(b"x" * size).digest(), size
 assert ksi.file_digest(os.path.join(samples, "deed.ksig")) == hashlib.sha256(signature).digest()
+# a descriptor that has no bytes yet is no file that ends
+reads, writes = os.pipe()
+os.set_blocking(reads, False)
+refuses(BlockingIOError, ksi.file_digest, reads)
 
 answer = ksi.verify(signature, right, publications)
 assert answer.accepted and answer.second == 1700000000 and str(answer.time) == "2023-11-14 22:13:20+00:00", answer
@@ -54,14 +66,6 @@ class Counted:
 
     def __bytes__(self):
         return b""
-
-
-def refuses(error, call, *words):
-    try:
-        call(*words)
-    except error:
-        return
-    raise AssertionError((call, words))
 
 
 for other in [5, "text", None, Counted()]:

@@ -133,6 +133,8 @@ def file_digest(name) -> bytes:
     with open(name, "rb") as file:
         while piece := file.read(1 << 20):
             _more(state, piece, len(piece))
+        if piece is None:
+            raise BlockingIOError(f"{name} has no bytes yet, and does not wait for them")
     _end(state, out)
     return out.raw
 
