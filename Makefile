@@ -89,8 +89,10 @@ install: install-service
 	    install -Dm644 "$(OUT)/_$$it" "$(ROOT)/share/zsh/site-functions/_$$it" && \
 	    install -Dm644 "$(OUT)/$$it.fish" "$(ROOT)/share/fish/vendor_completions.d/$$it.fish" || exit; \
 	done
-	install -d "$(DOC)"
-	install -m644 README.md NOTICE docs/*.md "$(DOC)"
+	install -d "$(DOC)/docs" "$(DOC)/bench"
+	install -m644 README.md NOTICE CHANGELOG.md CONTRIBUTING.md SECURITY.md "$(DOC)"
+	install -m644 docs/*.md docs/way.svg docs/page.png "$(DOC)/docs"
+	install -m644 bench/README.md "$(DOC)/bench"
 	! test -e "$(OUT)/page.html" || install -Dm644 "$(OUT)/page.html" "$(ROOT)/share/ksi/page.html"
 	! test -e "$(OUT)/page.html" || ln -sf ../../share/ksi/page.html "$(ROOT)/lib/ksi/page.html"
 
