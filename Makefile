@@ -75,6 +75,7 @@ install-service:
 install: install-service
 	if test -e $(VIEWER); then install -Dm755 $(VIEWER) "$(ROOT)/bin/ksi-show"; else echo "ksi_show is not built, so ksi-show is not there: make programs"; fi
 	install -Dm755 package/ksi-why "$(ROOT)/bin/ksi-why"
+	install -Dm644 "$(OUT)/ksi-why.1" "$(ROOT)/share/man/man1/ksi-why.1"
 	install -Dm644 docs/ANSWERS.md "$(ROOT)/share/ksi/ANSWERS.md"
 	install -Dm644 $(ARCHIVE) "$(ROOT)/lib/libksi.a"
 	install -Dm644 "$(OUT)/$(SONAME)" "$(ROOT)/lib/$(SONAME)"
@@ -97,7 +98,7 @@ install: install-service
 	! test -e "$(OUT)/page.html" || ln -sf ../../share/ksi/page.html "$(ROOT)/lib/ksi/page.html"
 
 uninstall:
-	cd "$(ROOT)" && rm -f bin/ksi-why lib/libksi.a lib/$(SONAME) lib/libksi.so include/ksi.h lib/pkgconfig/ksi.pc
+	cd "$(ROOT)" && rm -f bin/ksi-why share/man/man1/ksi-why.1 lib/libksi.a lib/$(SONAME) lib/libksi.so include/ksi.h lib/pkgconfig/ksi.pc
 	cd "$(ROOT)" && for it in $(NAMES); do \
 	    rm -f bin/$$it share/man/man1/$$it.1 share/bash-completion/completions/$$it share/zsh/site-functions/_$$it share/fish/vendor_completions.d/$$it.fish; \
 	done
