@@ -24,6 +24,8 @@ ARCHIVE = crates/ksi_c/out/libksi_c.a
 SONAME = libksi.so.1
 ROOT = $(DESTDIR)$(PREFIX)
 DOC = $(ROOT)/share/doc/ksi
+# as sed puts it in a file
+FILLED = s|@PREFIX@|$(subst &,\&,$(PREFIX))|
 UNITS = ksi-service.service ksi-head.service ksi-node@.service
 
 all: programs library pages
@@ -69,7 +71,7 @@ install-service:
 	done
 	ln -sf ../../bin/ksi "$(ROOT)/lib/ksi/ksi"
 	ln -sf ../lib/ksi/ksi-service "$(ROOT)/bin/ksi-service"
-	for it in $(UNITS); do sed -e 's,@PREFIX@,$(PREFIX),' service/deploy/$$it > "$(ROOT)/lib/systemd/system/$$it" && chmod 644 "$(ROOT)/lib/systemd/system/$$it" || exit; done
+	for it in $(UNITS); do sed -e '$(FILLED)' service/deploy/$$it > "$(ROOT)/lib/systemd/system/$$it" && chmod 644 "$(ROOT)/lib/systemd/system/$$it" || exit; done
 	install -m644 service/deploy/ksi.sysusers "$(ROOT)/lib/sysusers.d/ksi.conf"
 
 install: install-service
@@ -82,7 +84,7 @@ install: install-service
 	ln -sf $(SONAME) "$(ROOT)/lib/libksi.so"
 	install -Dm644 lang/c/ksi.h "$(ROOT)/include/ksi.h"
 	install -d "$(ROOT)/lib/pkgconfig"
-	sed -e 's,@PREFIX@,$(PREFIX),' -e 's,@VERSION@,$(VERSION),' lang/c/ksi.pc.in > "$(ROOT)/lib/pkgconfig/ksi.pc"
+	sed -e '$(FILLED)' -e 's,@VERSION@,$(VERSION),' lang/c/ksi.pc.in > "$(ROOT)/lib/pkgconfig/ksi.pc"
 	chmod 644 "$(ROOT)/lib/pkgconfig/ksi.pc"
 	for it in $(NAMES); do \
 	    install -Dm644 "$(OUT)/$$it.1" "$(ROOT)/share/man/man1/$$it.1" && \
