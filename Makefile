@@ -24,6 +24,8 @@ ARCHIVE = crates/ksi_c/out/libksi_c.a
 SONAME = libksi.so.1
 ROOT = $(DESTDIR)$(PREFIX)
 DOC = $(ROOT)/share/doc/ksi
+# as sed puts it in a file
+FILLED = s|@PREFIX@|$(subst &,\&,$(PREFIX))|
 UNITS = ksi-service.service ksi-head.service ksi-node@.service
 
 all: programs library pages
@@ -69,19 +71,20 @@ install-service:
 	done
 	ln -sf ../../bin/ksi "$(ROOT)/lib/ksi/ksi"
 	ln -sf ../lib/ksi/ksi-service "$(ROOT)/bin/ksi-service"
-	for it in $(UNITS); do sed -e 's,@PREFIX@,$(PREFIX),' service/deploy/$$it > "$(ROOT)/lib/systemd/system/$$it" && chmod 644 "$(ROOT)/lib/systemd/system/$$it" || exit; done
+	for it in $(UNITS); do sed -e '$(FILLED)' service/deploy/$$it > "$(ROOT)/lib/systemd/system/$$it" && chmod 644 "$(ROOT)/lib/systemd/system/$$it" || exit; done
 	install -m644 service/deploy/ksi.sysusers "$(ROOT)/lib/sysusers.d/ksi.conf"
 
 install: install-service
 	if test -e $(VIEWER); then install -Dm755 $(VIEWER) "$(ROOT)/bin/ksi-show"; else echo "ksi_show is not built, so ksi-show is not there: make programs"; fi
 	install -Dm755 package/ksi-why "$(ROOT)/bin/ksi-why"
+	install -Dm644 "$(OUT)/ksi-why.1" "$(ROOT)/share/man/man1/ksi-why.1"
 	install -Dm644 docs/ANSWERS.md "$(ROOT)/share/ksi/ANSWERS.md"
 	install -Dm644 $(ARCHIVE) "$(ROOT)/lib/libksi.a"
 	install -Dm644 "$(OUT)/$(SONAME)" "$(ROOT)/lib/$(SONAME)"
 	ln -sf $(SONAME) "$(ROOT)/lib/libksi.so"
 	install -Dm644 lang/c/ksi.h "$(ROOT)/include/ksi.h"
 	install -d "$(ROOT)/lib/pkgconfig"
-	sed -e 's,@PREFIX@,$(PREFIX),' -e 's,@VERSION@,$(VERSION),' lang/c/ksi.pc.in > "$(ROOT)/lib/pkgconfig/ksi.pc"
+	sed -e '$(FILLED)' -e 's,@VERSION@,$(VERSION),' lang/c/ksi.pc.in > "$(ROOT)/lib/pkgconfig/ksi.pc"
 	chmod 644 "$(ROOT)/lib/pkgconfig/ksi.pc"
 	for it in $(NAMES); do \
 	    install -Dm644 "$(OUT)/$$it.1" "$(ROOT)/share/man/man1/$$it.1" && \
@@ -89,13 +92,15 @@ install: install-service
 	    install -Dm644 "$(OUT)/_$$it" "$(ROOT)/share/zsh/site-functions/_$$it" && \
 	    install -Dm644 "$(OUT)/$$it.fish" "$(ROOT)/share/fish/vendor_completions.d/$$it.fish" || exit; \
 	done
-	install -d "$(DOC)"
-	install -m644 README.md NOTICE docs/*.md "$(DOC)"
+	install -d "$(DOC)/docs" "$(DOC)/bench"
+	install -m644 README.md NOTICE CHANGELOG.md CONTRIBUTING.md SECURITY.md "$(DOC)"
+	install -m644 docs/*.md docs/way.svg docs/page.png "$(DOC)/docs"
+	install -m644 bench/README.md "$(DOC)/bench"
 	! test -e "$(OUT)/page.html" || install -Dm644 "$(OUT)/page.html" "$(ROOT)/share/ksi/page.html"
 	! test -e "$(OUT)/page.html" || ln -sf ../../share/ksi/page.html "$(ROOT)/lib/ksi/page.html"
 
 uninstall:
-	cd "$(ROOT)" && rm -f bin/ksi-why lib/libksi.a lib/$(SONAME) lib/libksi.so include/ksi.h lib/pkgconfig/ksi.pc
+	cd "$(ROOT)" && rm -f bin/ksi-why share/man/man1/ksi-why.1 lib/libksi.a lib/$(SONAME) lib/libksi.so include/ksi.h lib/pkgconfig/ksi.pc
 	cd "$(ROOT)" && for it in $(NAMES); do \
 	    rm -f bin/$$it share/man/man1/$$it.1 share/bash-completion/completions/$$it share/zsh/site-functions/_$$it share/fish/vendor_completions.d/$$it.fish; \
 	done

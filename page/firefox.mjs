@@ -1,12 +1,12 @@
 // node --experimental-websocket firefox.mjs PAGE FOLDER [PICTURES]: the page in Firefox, by WebDriver BiDi: files in a link, and chosen.
 import fs from 'node:fs';
 import path from 'node:path';
-import { begun, linked, wait } from './tab.mjs';
+import { addressOf, begun, linked, wait } from './tab.mjs';
 
 const [page, folder, pictures] = process.argv.slice(2).map((p) => path.resolve(p));
 const name = ['firefox', 'firefox-esr'].find((it) => process.env.PATH.split(':').some((at) => fs.existsSync(path.join(at, it))));
 const { browser, close } = begun(name, (home) => ['--headless', '--no-remote', '--profile', home, '--remote-debugging-port', '0', '--width', '1000', '--height', '900', 'about:blank']);
-const address = await new Promise((found) => { let text = ''; browser.stderr.on('data', (d) => { text += d; const m = text.match(/ws:\/\/\S+/); if (m) found(m[0]); }); });
+const address = await addressOf(browser);
 const socket = new WebSocket(`${address}/session`);
 await new Promise((opened) => { socket.onopen = opened; });
 let count = 0;

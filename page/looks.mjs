@@ -26,7 +26,8 @@ const LOOK = `(() => {
     const below = svg ? numbers(getComputedStyle(it.previousElementSibling?.tagName === 'rect' ? it.previousElementSibling : document.querySelector('svg rect.group')).fill) : behind(it);
     const [a, b] = [light(numbers(svg ? style.fill : style.color)), light(below)].sort((x, y) => y - x), ratio = (a + 0.05) / (b + 0.05);
     if (ratio < 4.5) pale.push(it.textContent.trim().slice(0, 30) + ' ' + ratio.toFixed(2));
-    if (!it.closest('.wide') && (box.right > innerWidth + 1 || box.left < -1)) cut.push(it.textContent.trim().slice(0, 30));
+    const edge = svg?.getBoundingClientRect() ?? { left: 0, right: innerWidth };
+    if (!it.closest('.wide') && (box.right > edge.right + 1 || box.left < edge.left - 1)) cut.push(it.textContent.trim().slice(0, 30));
   }
   return { pale, cut, sideways: document.documentElement.scrollWidth > innerWidth };
 })()`;

@@ -20,9 +20,19 @@ export function begun(name, words) {
   return { browser, close };
 }
 
+// Where a browser that was begun is spoken to. One that does not say so in time, or ends, is given up.
+export function addressOf(browser) {
+  return new Promise((found, failed) => {
+    let text = '';
+    browser.stderr.on('data', (d) => { text += d; const m = text.match(/ws:\/\/\S+/); if (m) found(m[0]); });
+    browser.on('exit', () => failed(new Error(`the browser ended: ${text}`)));
+    setTimeout(() => failed(new Error('the browser told no address within 60 seconds')), 60000).unref();
+  });
+}
+
 export async function open() {
   const { browser, close } = begun('chromium', (home) => ['--headless', '--no-sandbox', '--disable-gpu', '--remote-debugging-port=0', `--user-data-dir=${home}`, 'about:blank']);
-  const address = await new Promise((found) => { let text = ''; browser.stderr.on('data', (d) => { text += d; const m = text.match(/ws:\/\/\S+/); if (m) found(m[0]); }); });
+  const address = await addressOf(browser);
   const tabs = await (await fetch(`http://127.0.0.1:${new URL(address).port}/json`)).json();
   const socket = new WebSocket(tabs.find((tab) => tab.type === 'page').webSocketDebuggerUrl);
   await new Promise((opened) => { socket.onopen = opened; });

@@ -1,5 +1,5 @@
-/* fuzz SECONDS SEED SAMPLES: calls every function on random and on mangled bytes, each in a block of exactly its size, so
- * that a sanitizer or valgrind sees any byte that is read outside. With GUARD a block ends where a page begins that nobody
+/* fuzz SECONDS SEED SAMPLES: calls every function on random and on mangled bytes, 200 inputs or more, each in a block of exactly its
+ * size, so that a sanitizer or valgrind sees any byte that is read outside. With GUARD a block ends where a page begins that nobody
  * may touch, so that the processor sees it. Ends by abort where an answer contradicts itself. */
 #include <ksi.h>
 #include <string.h>
@@ -116,7 +116,8 @@ int main(int count, char **words) {
     size_t publications_len = load(words[3], "publications.bin", publications, sizeof publications);
     ksi_hash(document, load(words[3], "deed.txt", document, sizeof document), right);
     uint64_t calls = 0, seen[4][4][16] = {{{0}}};
-    for (time_t end = time(0) + atol(words[1]); time(0) < end;)
+    time_t end = time(0) + atol(words[1]);
+    do
         for (int turn = 0; turn < 200; turn++, calls++) {
             size_t s, p;
             uint8_t *one = below(4) ? mangled(signature, signature_len, &s) : block(signature, s = signature_len);
@@ -132,6 +133,7 @@ int main(int count, char **words) {
             seen[status][answer->file][answer->code]++;
             done(one), done(two), done(digest), done(answer);
         }
+    while (time(0) < end);
     printf("%llu inputs without a fault\n", (unsigned long long)calls);
     for (int k = 0; k < 16; k++) {
         if (seen[0][0][k]) printf("accepted %llu\n", (unsigned long long)seen[0][0][k]);

@@ -6,7 +6,8 @@
  * is 0, and a length is below 2^63. What a call writes overlaps nothing else
  * that it is given. No function takes memory from a heap, keeps anything
  * between calls, waits, prints or reads a file. All may run in several threads
- * at once. A call takes less than 24 KB of stack.
+ * at once, each with a state, answer, step or digest of its own to write. A
+ * call takes less than 24 KB of stack.
  */
 #ifndef KSI_H
 #define KSI_H

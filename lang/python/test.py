@@ -10,11 +10,23 @@ def read(name):
         return file.read()
 
 
+def refuses(error, call, *words):
+    try:
+        call(*words)
+    except error:
+        return
+    raise AssertionError((call, words))
+
+
 signature, document, publications = read("deed.ksig"), read("deed.txt"), read("publications.bin")
 right, wrong = hashlib.sha256(document).digest(), hashlib.sha256(b"abc").digest()
 for size in [*range(0, 200), 4096, 100001]:
     assert ksi.digest(b"x" * size) == hashlib.sha256(b"x" * size).digest(), size
 assert ksi.file_digest(os.path.join(samples, "deed.ksig")) == hashlib.sha256(signature).digest()
+# a descriptor that has no bytes yet is no file that ends
+reads, writes = os.pipe()
+os.set_blocking(reads, False)
+refuses(BlockingIOError, ksi.file_digest, reads)
 
 answer = ksi.verify(signature, right, publications)
 assert answer.accepted and answer.second == 1700000000 and str(answer.time) == "2023-11-14 22:13:20+00:00", answer
@@ -28,12 +40,24 @@ assert (answer.status, answer.file, answer.name, answer.numbers[0]) == (ksi.MALF
 answer = ksi.verify(signature, right, signature)
 assert (answer.status, answer.file, answer.name) == (ksi.MALFORMED, ksi.PUBLICATIONS, "Q1"), answer
 
-# without the library, the words say how it is found
-ran = subprocess.run([sys.executable, "-c", "import ksi"], env={**os.environ, "KSI_LIBRARY": "/absent"}, capture_output=True, text=True)
-assert ran.stderr.splitlines()[-1].startswith("ImportError: /absent") and "KSI_LIBRARY" in ran.stderr.splitlines()[-1], ran.stderr
+# without the library, or with another one, the words say how it is found
+for other in ["/absent", "libc.so.6"]:
+    ran = subprocess.run([sys.executable, "-c", "import ksi"], env={**os.environ, "KSI_LIBRARY": other}, capture_output=True, text=True)
+    last = ran.stderr.splitlines()[-1]
+    assert last.startswith("ImportError: ") and other in last and "KSI_LIBRARY" in last, ran.stderr
 
 # whatever lends bytes is taken, and nothing else; a digest is counted in bytes
 assert ksi.verify(bytearray(signature), memoryview(right), array.array("B", publications)).accepted and ksi.digest(bytearray(b"abc")) == wrong
+
+
+class Long(bytes):
+    def __len__(self):
+        return 1 << 16
+
+
+# nothing is read behind the bytes, whatever a class of its own says of its length
+assert ksi.digest(Long(b"abc")) == wrong and ksi.verify(Long(signature), Long(right), Long(publications)).accepted
+assert len(list(ksi.steps(Long(signature)))) == 32
 
 
 class Counted:
@@ -42,14 +66,6 @@ class Counted:
 
     def __bytes__(self):
         return b""
-
-
-def refuses(error, call, *words):
-    try:
-        call(*words)
-    except error:
-        return
-    raise AssertionError((call, words))
 
 
 for other in [5, "text", None, Counted()]:

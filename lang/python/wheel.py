@@ -18,10 +18,12 @@ def row(name, body):
     return f"{name},sha256={digest},{len(body)}\n"
 
 
-metadata = f"Metadata-Version: 2.1\nName: ksi\nVersion: {version}\nSummary: Checks of KSI signatures by a proved library\nRequires-Python: >=3.8\n"
+metadata = f"Metadata-Version: 2.1\nName: ksi\nVersion: {version}\nSummary: Checks of KSI signatures by a proved library\nRequires-Python: >=3.8\nLicense-File: NOTICE\n"
 files = {
     "ksi/__init__.py": read(f"{here}/ksi/__init__.py"),
+    "ksi/py.typed": read(f"{here}/ksi/py.typed"),
     "ksi/libksi.so": read(library),
+    f"{info}/NOTICE": read(f"{here}/../../NOTICE"),
     f"{info}/METADATA": metadata.encode(),
     f"{info}/WHEEL": f"Wheel-Version: 1.0\nGenerator: wheel.py\nRoot-Is-Purelib: false\nTag: {tag}\n".encode(),
 }

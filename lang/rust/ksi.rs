@@ -44,6 +44,7 @@ const BLANK: Step = Step {
 };
 
 extern "C" {
+    fn ksi_abi() -> u32;
     fn ksi_hash(bytes: *const u8, len: usize, digest: *mut u8);
     fn ksi_verify(
         signature: *const u8,
@@ -56,8 +57,17 @@ extern "C" {
     fn ksi_step(signature: *const u8, signature_len: usize, number: usize, step: *mut Step) -> u32;
 }
 
+// The library that was linked may have other structs than those above.
+fn same_interface() {
+    assert!(
+        unsafe { ksi_abi() } == 1,
+        "libksi has another interface than this crate"
+    );
+}
+
 /// The SHA-256 of bytes.
 pub fn digest(bytes: &[u8]) -> [u8; 32] {
+    same_interface();
     let mut out = [0; 32];
     unsafe { ksi_hash(bytes.as_ptr(), bytes.len(), out.as_mut_ptr()) };
     out
@@ -65,6 +75,7 @@ pub fn digest(bytes: &[u8]) -> [u8; 32] {
 
 /// Checks a signature for the SHA-256 of a document against a publications file.
 pub fn verify(signature: &[u8], digest: &[u8; 32], publications: &[u8]) -> Answer {
+    same_interface();
     let mut answer = Answer::default();
     unsafe {
         ksi_verify(
@@ -81,6 +92,7 @@ pub fn verify(signature: &[u8], digest: &[u8; 32], publications: &[u8]) -> Answe
 
 /// The links of a signature from the document's hash up; none where the bytes are no signature.
 pub fn steps(signature: &[u8]) -> impl Iterator<Item = Step> + '_ {
+    same_interface();
     (0..).map_while(move |number| {
         let mut step = BLANK;
         let status = unsafe { ksi_step(signature.as_ptr(), signature.len(), number, &mut step) };

@@ -1,16 +1,17 @@
 //! verify SIGNATURE DOCUMENT PUBLICATIONS: the second in which the document existed, or why none is proved.
-use std::{env, fs, process};
+use std::{env, ffi::OsString, fs, path::Path, process};
 
 // The status of a file that cannot be read is 4, as of `ksi verify`: 1 says that a check fails.
-fn read(name: &str) -> Vec<u8> {
+fn read(name: &OsString) -> Vec<u8> {
     fs::read(name).unwrap_or_else(|error| {
-        eprintln!("{name}: {error}");
+        eprintln!("{}: {error}", Path::new(name).display());
         process::exit(4)
     })
 }
 
 fn main() {
-    let words: Vec<String> = env::args().skip(1).collect();
+    // a name may be any bytes
+    let words: Vec<OsString> = env::args_os().skip(1).collect();
     let [signature, document, publications] = words.as_slice() else {
         process::exit(2);
     };

@@ -10,14 +10,22 @@ import ctypes, datetime, os, typing
 ABI = 1
 ACCEPTED, REFUSED, MALFORMED = 0, 1, 3
 SIGNATURE, PUBLICATIONS = 1, 3
+Lender = typing.Union[bytes, bytearray, memoryview]
+"""What bytes are read from. Other objects that lend bytes, as of `array` and `mmap`, are taken too."""
 
 
-def _loaded():
+def _loaded() -> ctypes.CDLL:
+    """The library, whose interface is compared before any other function is looked for."""
     path = os.environ.get("KSI_LIBRARY") or os.path.join(os.path.dirname(os.path.abspath(__file__)), "libksi.so")
     try:
-        return ctypes.CDLL(path)
-    except OSError as error:
+        library = ctypes.CDLL(path)
+        abi = library.ksi_abi
+    except (OSError, AttributeError) as error:
         raise ImportError(f"{error}; the wheel has libksi.so, and without it KSI_LIBRARY names one") from error
+    abi.restype, abi.argtypes = ctypes.c_uint32, ()
+    if abi() != ABI:
+        raise ImportError("libksi has another interface than this module")
+    return library
 
 
 _library = _loaded()
@@ -39,21 +47,18 @@ class _Step(ctypes.Structure):
                 ("join", ctypes.c_ubyte * 32), ("sibling", ctypes.c_ubyte * 4096)]
 
 
-def _function(name, result, *arguments):
+def _function(name: str, result: typing.Any, *arguments: typing.Any) -> typing.Any:
     function = getattr(_library, name)
     function.restype, function.argtypes = result, arguments
     return function
 
 
-_abi = _function("ksi_abi", ctypes.c_uint32)
 _hash = _function("ksi_hash", None, *_bytes, ctypes.c_char_p)
 _start = _function("ksi_hash_start", None, ctypes.POINTER(_Hasher))
 _more = _function("ksi_hash_more", None, ctypes.POINTER(_Hasher), *_bytes)
 _end = _function("ksi_hash_end", None, ctypes.POINTER(_Hasher), ctypes.c_char_p)
 _verify = _function("ksi_verify", ctypes.c_uint32, *_bytes, ctypes.c_char_p, *_bytes, ctypes.POINTER(_Answer))
 _step = _function("ksi_step", ctypes.c_uint32, *_bytes, ctypes.c_size_t, ctypes.POINTER(_Step))
-if _abi() != ABI:
-    raise ImportError("libksi has another interface than this module")
 
 
 class Answer(typing.NamedTuple):
@@ -64,23 +69,23 @@ class Answer(typing.NamedTuple):
     code: int
     detail: int
     second: int
-    numbers: tuple
+    numbers: typing.Tuple[int, ...]
     one: bytes
     other: bytes
 
     @property
-    def accepted(self):
+    def accepted(self) -> bool:
         return self.status == ACCEPTED
 
     @property
-    def time(self):
+    def time(self) -> typing.Optional[datetime.datetime]:
         """The second that is proved, as a time; none where the signature is not accepted, or its second is past the year 9999."""
         if not self.accepted or self.second > 253402300799:
             return None
         return datetime.datetime.fromtimestamp(self.second, datetime.timezone.utc)
 
     @property
-    def name(self):
+    def name(self) -> str:
         """The code as the program `ksi` prints it: V1, S7, Q3."""
         letter = "V" if self.status == REFUSED else "S" if self.file == SIGNATURE else "Q"
         return "accepted" if self.accepted else f"{letter}{self.code}"
@@ -100,12 +105,12 @@ class Step(typing.NamedTuple):
     join: bytes
 
 
-def _bytes_of(it):
-    """The bytes that an object lends. A number lends none, though `bytes` makes so many zeros of it."""
-    return it if isinstance(it, bytes) else bytes(memoryview(it))
+def _bytes_of(it: Lender) -> bytes:
+    """The bytes that an object lends, which have the length that `len` says. A number lends none, though `bytes` makes so many zeros of it."""
+    return it if type(it) is bytes else bytes(memoryview(it))
 
 
-def verify(signature: bytes, digest: bytes, publications: bytes) -> Answer:
+def verify(signature: Lender, digest: Lender, publications: Lender) -> Answer:
     """Checks a signature for the SHA-256 of a document against a publications file."""
     signature, digest, publications = _bytes_of(signature), _bytes_of(digest), _bytes_of(publications)
     # the library reads as many, and len() of what was handed over may count others
@@ -116,25 +121,27 @@ def verify(signature: bytes, digest: bytes, publications: bytes) -> Answer:
     return Answer(it.status, it.file, it.code, it.detail, it.second, tuple(it.numbers), bytes(it.one), bytes(it.other))
 
 
-def digest(document: bytes) -> bytes:
+def digest(document: Lender) -> bytes:
     """SHA-256 of bytes."""
     document, out = _bytes_of(document), ctypes.create_string_buffer(32)
     _hash(document, len(document), out)
     return out.raw
 
 
-def file_digest(name) -> bytes:
+def file_digest(name: typing.Union[str, bytes, "os.PathLike[str]", int]) -> bytes:
     """SHA-256 of a file of any size, read in pieces."""
     state, out = _Hasher(), ctypes.create_string_buffer(32)
     _start(state)
     with open(name, "rb") as file:
         while piece := file.read(1 << 20):
             _more(state, piece, len(piece))
+        if piece is None:
+            raise BlockingIOError(f"{name} has no bytes yet, and does not wait for them")
     _end(state, out)
     return out.raw
 
 
-def steps(signature: bytes):
+def steps(signature: Lender) -> typing.Iterator[Step]:
     """The links of a signature from the document's hash up; none where the bytes are no signature."""
     signature, it, number = _bytes_of(signature), _Step(), 0
     while _step(signature, len(signature), number, it) == 0:
