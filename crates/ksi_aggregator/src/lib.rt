@@ -1,6 +1,6 @@
-//! An aggregator, as a state machine: it gathers requests and the items of lower aggregators, closes a round of them each second, submits
-//! the item of the round's tree to its parent, sends each response on with the chain of the lower aggregator's item, and
-//! issues the signatures of its requests.
+//! An aggregator, as a state machine: it gathers requests and the items of lower aggregators, closes a round of them each
+//! second, submits the item of the round's tree to its parent, sends each response on with the chain of the lower
+//! aggregator's item, and issues the signatures of its requests.
 //!
 //! A [`Step`] has a call's [`Answer`](ksi_signature::Answer), the [`Fact`] that is to be stored, if any, and what is to be
 //! sent. The layer above may rely on this: each call is its row of the step table of docs/PROTOCOL.md, for the second that

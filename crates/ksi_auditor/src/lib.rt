@@ -7,9 +7,9 @@
 //! leaf's level. The first string that differs has the imprint of the kept one, so that it shows a clash of the hash function.
 //!
 //! The layer above may rely on this: [`audit`] and [`audit_view`], which is of a lent signature, give exactly the answer
-//! that its definition computes of the signature, by one body, and what each answer says holds, whatever the hash function is; the proof needs no premise about it but
-//! that its images are imprints. Memory is taken for the two strings of a clash alone, and is wanting only where the answer
-//! is a clash.
+//! that its definition computes of the signature, by one body, and what each answer says holds, whatever the hash function
+//! is; the proof needs no premise about it but that its images are imprints. Memory is taken for the two strings of a clash
+//! alone, and is wanting only where the answer is a clash.
 //! The walk goes down by recursion, at most 63 links and 16 chains deep. In [`laws`] stands what holds of the definition.
 //!
 //! ```text

@@ -1,5 +1,6 @@
-//! A core of the calendar, as a state machine. For each second it takes items that aggregators submit, seals them, votes with the other cores
-//! on the second's root by Lamport's Synod, and answers each aggregator with the way from its item to the calendar.
+//! A core of the calendar, as a state machine. For each second it takes items that aggregators submit, seals them, votes
+//! with the other cores on the second's root by Lamport's Synod, and answers each aggregator with the way from its item to
+//! the calendar.
 //!
 //! A [`Core`] takes one call at a time and answers a [`Step`]: an [`Answer`], the [`Fact`] that is to be stored, if any, and
 //! what is to be sent for the second of the call. Nothing is sent, stored or timed here. A contract sees each second of a

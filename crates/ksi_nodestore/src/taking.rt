@@ -24,13 +24,14 @@ use ksi_imprint::Compress;
 
 impl<C: Compress, D: Disk> NodeStore<C, D> {
     /// Takes an event by the call of the core that it is, under that call's condition, for a second at or after the start
-    /// and below 2^63; the ballot that it brings, if any, is of a core of the plan. Its fact, if any, is appended to the file before the step is handed out: from then on each image has
-    /// it.
+    /// and below 2^63; the ballot that it brings, if any, is of a core of the plan. Its fact, if any, is appended to the
+    /// file before the step is handed out: from then on each image has it.
     ///
     /// # Errors
     ///
     /// `Failed`, and the disk's count of faults rises; then the store is spent, its count of records stays, and each image
-    /// has the facts before, with this event's or without. `Spent` exactly where an earlier event failed so. `NoMemory`: all is as it was.
+    /// has the facts before, with this event's or without. `Spent` exactly where an earlier event failed so. `NoMemory`:
+    /// all is as it was.
     pub fn take(&mut self, event: CoreEvent) -> Result<Step, TakeRefusal>
         requires event { MayTake self.old.core event }
         requires asked { IsAsked self.old.core (event_second event) }

@@ -103,6 +103,6 @@ SaveLeaves name bytes old new (Ok u) = new ≡ with_file old name bytes
 SaveLeaves name bytes old new (Err saves.Failed) = OthersStay name old new
 SaveLeaves name bytes old new (Err saves.NoMemory) = new ≡ old
 
--- the second is the first and a front of the piece, which may be none of it or all
+-- the second is the first and a beginning of the piece, which may be none of it or all
 abbrev pub ExtendsByFront : List ℕ → List ℕ → List ℕ → Type 0
 ExtendsByFront old piece new = (k : ℕ) × (new ≡ old ++ take k piece)

@@ -12,7 +12,7 @@ use Rattle.ksi_publications.specs.declared.fault.PublicationsFault.TheVariants a
 use Rattle.ksi_publications.specs.Tables.{file_table}
 use Rattle.ksi_publications.specs.File.{magic, pairs_of}
 
--- what stands behind a front, where the bytes begin with it
+-- what stands behind a beginning, where the bytes begin with it
 abbrev pub behind : List ℕ → List ℕ → Option (List ℕ)
 behind [] bytes = Some bytes
 behind (b ∷ front) [] = None

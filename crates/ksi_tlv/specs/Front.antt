@@ -1,4 +1,4 @@
--- The element at the front of bytes, from left to right. The law `front_by_spelling` says that it is the one that
+-- The element that bytes begin with, from left to right. The law `front_by_spelling` says that it is the one that
 -- is spelled there.
 use Rattle.std.specs.Prelude.{ℕ, ◌+◌, ◌*◌, ◌/◌, ◌%◌, nat_lt, ◌==◌, List, [], ◌∷◌, length, take, drop, Result, Ok, Err, if◌then◌else◌}
 use Rattle.ksi_tlv.specs.Spelling.{Tlv}
