@@ -1,8 +1,8 @@
 # Installs ksi, ksi-show, ksi-service, the library for C, their pages and the page for browsers:
 #
-#   rt ci  (or `make`)          proves and builds the programs
+#   make                        proves and builds all of them but the page for browsers, which is `make page`
 #   make install PREFIX=/usr/local
-#   make install-service        of it only ksi and ksi-service, with the units of service/deploy
+#   make install-service        of it only ksi and ksi-service, with the units of service/deploy; `rt ci` is enough for it
 #
 # Nothing is built under `install`, so root needs no rt.
 VERSION = $(shell cat VERSION)
