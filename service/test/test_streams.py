@@ -18,7 +18,8 @@ from ksi_service import remote, streams
 from ksi_service.hours import Broken
 from ksi_service.node import LostFacts
 from ksi_service.plan import Plan
-from ksi_service.record import Signed, last_state, told
+from ksi_service.record import Signed, told
+from recorded import most_left
 from streamed import NODES, PYTHON, WHY, Streamed
 
 
@@ -50,10 +51,8 @@ class StreamsTest(Streamed):
         handed = {bytes.fromhex(it.text) for it in told(record) if isinstance(it, Signed)}
         self.assertEqual(set(signed) - handed, set())
         self.assertGreater(forgotten, 0)
-        # an item has 64 digits of its hash, of which none that was signed is left
         sizes = {name: os.path.getsize(os.path.join(self.room.name, name, f"{name}.facts")) for name in NODES if name[0] == "a"}
-        facts = last_state(record)[0]
-        self.assertEqual([name for name, size in sizes.items() if size > 20 + 30 * facts.node(name).facts + self.unanswered(record, name)], [], sizes)
+        self.assertEqual([name for name, size in sizes.items() if size > most_left(record, name)], [], sizes)
         self.assertGreater(sum(it.line is None for it in told(record) if not isinstance(it, Signed)), 3)
         self.checked(100)
 
