@@ -20,13 +20,12 @@ from . import backup as backing
 from . import forget as forgetting
 from . import replay as replaying
 from . import extension, files, hours, service, streams
-from .calendar import Calendar
 from .clock import PlanEnded
 from .elements import Malformed, parts_of, published_in
 from .node import Down, GivenUp, LostFacts
-from .plan import Odd, Plan
+from .plan import Odd
 from .programs import Missing
-from .proved import Refused, Stopped, ksi
+from .proved import Refused, ksi
 from .publications import Publications
 from .record import Broken, last_state
 
@@ -212,12 +211,12 @@ def at_rest(folder):
 
 
 def extended_by_file(folder, signature):
-    with at_rest(folder), Stopped(folder, "c0") as core:
+    with at_rest(folder):
         published = Publications(folder)
         if published.last() is None:
             raise Failed(f"nothing was published yet over {folder}")
         try:
-            return extension.extend_by(core, Calendar(Plan.read(os.path.join(folder, "plan")).start), signature, published)[1]
+            return extension.extend_stopped(folder, signature, published)
         except extension.NotExtended as reason:
             raise Failed(str(reason)) from None
 

@@ -1,9 +1,56 @@
 """A service of one machine over a folder in which the file of a core is not the record's."""
+import fcntl
 import os
 import shutil
+import tempfile
 import unittest
+from unittest import mock
 
+import stands
+from ksi_service import backup, extension, files
+from ksi_service.plan import Plan
+from ksi_service.proved import Refused
 from served import Served, imprint
+
+
+class StoppedTest(unittest.TestCase):
+    """A stopped service, the file of whose first core cannot be read."""
+
+    def setUp(self):
+        self.room = tempfile.TemporaryDirectory(prefix="ksi-test-")
+        self.addCleanup(self.room.cleanup)
+        self.folder = self.room.name
+        named = mock.patch.dict(os.environ, KSI_BIN=stands.make(os.path.join(self.folder, "bin")))
+        named.start()
+        self.addCleanup(named.stop)
+        files.write(os.path.join(self.folder, "plan"), Plan(3, 5, ("c0", "c1")).text().encode())
+        for name in ("c0", "c1", "c2"):
+            files.write(os.path.join(self.folder, f"{name}.facts"), b"")
+        self.hold("c0")
+
+    def hold(self, name):
+        """Has a stand-in for a node end at its file."""
+        file = open(os.path.join(self.folder, f"{name}.facts"), "ab")
+        self.addCleanup(file.close)
+        fcntl.flock(file, fcntl.LOCK_EX)
+
+    def test_a_backup_is_made_of_the_other_cores(self):
+        told, made = [], []
+        with mock.patch.object(backup, "ksi", lambda word, *_: made.append(word) or word):
+            backup.make(self.folder, os.path.join(self.folder, "backup"), 9, told.append)
+            self.assertEqual((made, told[0][:24], len(told)), (["merge", "whole"], "core 0 is left out: c0 e", 3))
+            self.hold("c1")
+            self.hold("c2")
+            self.assertRaisesRegex(Refused, "c2 ended", backup.make, self.folder, os.path.join(self.folder, "other"), 9, told.append)
+
+    def test_another_core_extends(self):
+        with mock.patch.object(extension, "extend_by", lambda core, *_: (None, core.name)):
+            self.assertEqual(extension.extend_stopped(self.folder, b"", None), "c1")
+        self.hold("c1")
+        with mock.patch.object(extension, "extend_by", side_effect=extension.NotExtended("c2 lacks a second up to 9")):
+            self.assertRaisesRegex(extension.NotExtended, "c2 lacks", extension.extend_stopped, self.folder, b"", None)
+        self.hold("c2")
+        self.assertRaisesRegex(Refused, "c0 ended", extension.extend_stopped, self.folder, b"", None)
 
 
 class LeftOutTest(Served):
