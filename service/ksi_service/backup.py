@@ -55,11 +55,17 @@ def make(folder, out, last, say=print):
 
 def merge(core, number, plan, last, at, made, say):
     """Merges a core's mirrors with those that were made, or makes the first ones of it."""
-    for part, (first, end) in enumerate(parts(plan, last)):
-        content, mirror = mirror_file(plan.start, number, rows_of(core, first, end)), at(f"mirror.{part}")
+    for part, content in enumerate(mirrors(core, plan, number, last)):
+        mirror = at(f"mirror.{part}")
         if not made:
             files.write(mirror, content)
             continue
         files.write(at("other"), content)
         say(f"part {part}, core {number}: {ksi('merge', mirror, at('other'), mirror)}")
         files.remove(at("other"))
+
+
+def mirrors(core, plan, number, last):
+    """A core's mirrors, one for each part."""
+    for first, end in parts(plan, last):
+        yield mirror_file(plan.start, number, rows_of(core, first, end))

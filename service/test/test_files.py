@@ -93,7 +93,7 @@ class BackupTest(unittest.TestCase):
         with tempfile.TemporaryDirectory() as room:
             for name, content in (("plan", Plan(1, 5, ("c0",)).text().encode()), ("mirror.1", b"another")):
                 files.write(os.path.join(room, name), content)
-            with mock.patch.object(backup, "mirrors", lambda *_: [b"this"]), mock.patch.object(backup, "ksi", lambda *words: asked.append(os.path.basename(words[1]))):
+            with mock.patch.object(backup, "Stopped"), mock.patch.object(backup, "mirrors", lambda *_: [b"this"]), mock.patch.object(backup, "ksi", lambda *words: asked.append(os.path.basename(words[1]))):
                 backup.make(room, room, 7, say=lambda text: None)
             self.assertEqual(files.content_of(os.path.join(room, "mirror.1")), b"another")
         self.assertEqual(asked, ["mirror.0"])
