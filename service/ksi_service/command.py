@@ -22,6 +22,7 @@ from . import replay as replaying
 from . import extension, files, hours, service, streams
 from .clock import PlanEnded
 from .elements import Malformed, parts_of, published_in
+from .network import WITHOUT
 from .node import Down, GivenUp, LostFacts
 from .plan import Odd
 from .programs import Missing
@@ -101,7 +102,7 @@ def start(words):
         if child.poll() is not None:
             raise Failed(f"it did not start: {reason_in(path, before)}")
         if address := door_of(words.folder, child.pid):
-            print(f"started over {words.folder}, the door is http://{address}")
+            print(*(row for row in rows_in(path, before) if WITHOUT in row), f"started over {words.folder}, the door is http://{address}", sep="\n")
             return
         if not told and time.monotonic() - began > LONG_SECONDS:
             print(f"its nodes still read their files, or are away: see {path}", flush=True)
@@ -120,11 +121,16 @@ def door_of(folder, number):
         return None
 
 
-def reason_in(path, before):
-    """Why a service ended, by what its log has behind a place. Another service over the folder may write to it too."""
+def rows_in(path, before):
+    """The lines of a log behind a place. Another service over the folder may write to it too."""
     with open(path, "rb") as log:
         log.seek(before)
-        rows = log.read().decode(errors="replace").splitlines()
+        return log.read().decode(errors="replace").splitlines()
+
+
+def reason_in(path, before):
+    """Why a service ended, by what its log has behind a place."""
+    rows = rows_in(path, before)
     hint = f"see {path}" if rows else "its log says nothing, as on a full disk"
     return next((row[len("ksi-service: "):] for row in reversed(rows) if row.startswith("ksi-service: ")), hint)
 

@@ -3,12 +3,17 @@ import asyncio
 import collections
 import os
 import random
+import time
 
 from .forget import forget_between
 from .node import GivenUp, Line, LostFacts, Node
 from .programs import program
 from .record import Record
 
+WITHOUT = "the service goes on without"
+"""What is said of a node that is left out."""
+QUIET_START_SECONDS = 5
+"""How long a start waits for nodes before it says for which."""
 MOST_DECIDED = 4096
 """How many seconds back the host remembers what was decided; the cores remember all."""
 
@@ -38,6 +43,19 @@ def decree_of(text):
     """The imprint that a message tells as decided, or None."""
     words = text.split(" ", 4)
     return words[4] if words[0] == "synod" and words[3] == "success" else None
+
+
+async def until(is_ready, network, what):
+    """Waits until nodes are ready, or a task of their network fails. Says once what it waits for, if that is long."""
+    began, told = time.monotonic(), False
+    while not is_ready():
+        for task in network.tasks:
+            if task.done():
+                task.result()
+        if not told and time.monotonic() - began > QUIET_START_SECONDS:
+            network.say(what())
+            told = True
+        await asyncio.sleep(0.02)
 
 
 class Network:
@@ -119,15 +137,13 @@ class Network:
             self.left_out[node.name] = str(reason)
             if not self.plan.may_sign(self.nodes.keys() - self.left_out.keys()):
                 raise
-            self.say(f"{reason}: the service goes on without {node.name} until it is started again")
+            self.say(f"{reason}: {WITHOUT} {node.name} until it is started again")
             await self.ending.wait()
 
     async def ready(self):
-        while not all(node.alive or name in self.left_out for name, node in self.nodes.items()):
-            for task in self.tasks:
-                if task.done():
-                    task.result()
-            await asyncio.sleep(0.01)
+        """Waits until all nodes are up, but for those that are left out."""
+        missing = lambda: [name for name, node in self.nodes.items() if not node.alive and name not in self.left_out]
+        await until(lambda: not missing(), self, lambda: f"waits for {' '.join(missing())}, which read their files")
 
     async def forget(self, aggregator, before):
         """Lets an aggregator forget rounds of seconds before this one. Returns how many facts are left, and how many there were."""

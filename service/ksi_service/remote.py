@@ -12,7 +12,7 @@ import time
 
 from .forget import NotForgotten
 from .hours import Broken
-from .network import MOST_DECIDED, decree_of, second_of
+from .network import MOST_DECIDED, decree_of, second_of, until
 from .node import Down, Line
 from .record import Record
 from .streams import ALIVE_MILLISECONDS, connect, errors, patiently
@@ -296,14 +296,9 @@ class RemoteNetwork:
 
     async def ready(self):
         """Waits until a majority of the cores is up, and an aggregator below one of them."""
-        while not self.may_begin():
-            for task in self.tasks:
-                if task.done():
-                    task.result()
-            await asyncio.sleep(0.05)
-
-    def may_begin(self):
-        return self.plan.may_sign({name for name, node in self.nodes.items() if node.alive})
+        up = lambda: [name for name, node in self.nodes.items() if node.alive]
+        await until(lambda: self.plan.may_sign(up()), self,
+                    lambda: f"waits for a majority of the cores and an aggregator below one of them, and sees {' '.join(up()) or 'no node'}")
 
     async def stop(self):
         """Lets the threads end, and writes what is left of the record. The nodes go on: so it is waited for what they were asked, as to

@@ -211,7 +211,7 @@ class Service:
 
     def processes(self):
         """The numbers of the nodes' processes that run on this machine."""
-        return {name: node.process.pid for name, node in self.network.nodes.items() if node.alive and node.process}
+        return {name: node.process.pid for name, node in self.network.nodes.items() if node.process and node.process.returncode is None}
 
     async def idle(self, seconds):
         """Waits until no request waits, but not for long."""

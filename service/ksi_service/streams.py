@@ -24,6 +24,7 @@ import time
 from . import files
 from .forget import Left
 from .node import FIRST_PAUSE, MOST_VAIN_STARTS, SILENT_SECONDS, GivenUp, LostFacts
+from .plan import Plan
 from .programs import Missing as MissingProgram
 from .programs import program
 from .proved import Refused
@@ -168,6 +169,8 @@ class NodeHost:
         if files.content_of(path) not in (None, plan.encode()):
             raise LostFacts(f"{self.folder} has another plan than the server")
         files.write(path, plan.encode())
+        if self.name not in Plan.read(path).names():
+            raise LostFacts(f"the plan has no {self.name}, but {Plan.read(path).told()}")
         try:
             self.client.xgroup_create(self.to, GROUP, "0", mkstream=True)
         except redis.ResponseError as there:

@@ -72,7 +72,7 @@ class LeftOutTest(Served):
         whole = shutil.copy(self.path("c0"), self.file("whole", ""))
         os.remove(self.path("c0"))
         for number in (3, 4):
-            self.start()
+            self.assertIn("found 0: the service goes on without c0 until it is started again\nstarted over ", self.start())
             self.sign(number)
             told = self.command("status")
             self.assertRegex(told, r"nodes_left_out +1\n(.*\n)*left_out +c0=c0 acknowledged [0-9]+ facts and found 0")

@@ -10,8 +10,11 @@ from unittest import mock
 
 import stands
 from clocked import Clocked, imprint
+from ksi_service import network as carriers
 from ksi_service import node as nodes
+from ksi_service.network import Network
 from ksi_service.node import Down, GivenUp
+from ksi_service.plan import Plan
 from ksi_service.record import Record, Step, told
 from test_node import FAKE
 
@@ -78,6 +81,7 @@ class LateTest(unittest.TestCase):
             while not node.alive:
                 await asyncio.sleep(0.01)
             up.append(node.alive)
+            await asyncio.gather(*asks, return_exceptions=True)
             node.end()
             await asyncio.wait(tasks[1:], timeout=5)
             tasks[0].cancel()
@@ -91,6 +95,27 @@ class LateTest(unittest.TestCase):
 
     def test_a_node_that_the_others_need_is_waited_for(self):
         self.assertEqual(self.played(lambda: False), ([list, list], [True, True], ["seal 5", "seal 6", "tell 7"]))
+
+
+class StartTest(Clocked):
+    def test_a_start_says_which_nodes_it_waits_for(self):
+        said = []
+
+        async def go():
+            network = Network(self.folder, Plan(3, 5, ("c0",)), say=said.append)
+            for name in ("c1", "a0"):
+                network.nodes[name].words = ["/bin/sleep", "100"]
+            network.begin()
+            with self.assertRaises(asyncio.TimeoutError):
+                await asyncio.wait_for(network.ready(), 3)
+            for node in network.nodes.values():
+                node.kill()
+            await network.stop()
+        with open(os.path.join(self.folder, "plan"), "w", encoding="ascii") as file:
+            file.write(Plan(3, 5, ("c0",)).text())
+        with mock.patch.object(carriers, "QUIET_START_SECONDS", 2):
+            asyncio.run(go())
+        self.assertEqual(said, ["waits for c1 a0, which read their files"])
 
 
 class LeftOutTest(Clocked):
