@@ -12,8 +12,8 @@ from .record import Record
 
 WITHOUT = "the service goes on without"
 """What is said of a node that is left out."""
-QUIET_START_SECONDS = 5
-"""How long a start waits for nodes before it says for which."""
+QUIET_START_SECONDS, PATIENT_SECONDS = 5, 60
+"""How long a start waits for nodes before it says for which; and how long for all of them, where fewer are enough."""
 MOST_DECIDED = 4096
 """How many seconds back the host remembers what was decided; the cores remember all."""
 
@@ -141,9 +141,11 @@ class Network:
             await self.ending.wait()
 
     async def ready(self):
-        """Waits until all nodes are up, but for those that are left out."""
+        """Waits until all nodes are up, but for those that are left out; or for so long, and until those that are up are enough."""
+        patient = time.monotonic() + PATIENT_SECONDS
         missing = lambda: [name for name, node in self.nodes.items() if not node.alive and name not in self.left_out]
-        await until(lambda: not missing(), self, lambda: f"waits for {' '.join(missing())}, which read their files")
+        enough = lambda: not missing() or time.monotonic() > patient and self.plan.may_sign({it for it, node in self.nodes.items() if node.alive})
+        await until(enough, self, lambda: f"waits for {' '.join(missing())}, which read their files")
 
     async def forget(self, aggregator, before):
         """Lets an aggregator forget rounds of seconds before this one. Returns how many facts are left, and how many there were."""

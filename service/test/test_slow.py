@@ -98,24 +98,34 @@ class LateTest(unittest.TestCase):
 
 
 class StartTest(Clocked):
-    def test_a_start_says_which_nodes_it_waits_for(self):
-        said = []
+    def started(self, *names):
+        """What a start says two of whose nodes do not get ready, and whether it begins."""
+        said, plan = [], Plan(3, 5, ("c0", "c2"))
 
         async def go():
-            network = Network(self.folder, Plan(3, 5, ("c0",)), say=said.append)
-            for name in ("c1", "a0"):
+            network = Network(self.folder, plan, say=said.append)
+            for name in names:
                 network.nodes[name].words = ["/bin/sleep", "100"]
             network.begin()
-            with self.assertRaises(asyncio.TimeoutError):
-                await asyncio.wait_for(network.ready(), 3)
-            for node in network.nodes.values():
-                node.kill()
-            await network.stop()
+            try:
+                await asyncio.wait_for(network.ready(), 4)
+                return True
+            except asyncio.TimeoutError:
+                return False
+            finally:
+                for node in network.nodes.values():
+                    node.kill()
+                await network.stop()
         with open(os.path.join(self.folder, "plan"), "w", encoding="ascii") as file:
-            file.write(Plan(3, 5, ("c0",)).text())
-        with mock.patch.object(carriers, "QUIET_START_SECONDS", 2):
-            asyncio.run(go())
-        self.assertEqual(said, ["waits for c1 a0, which read their files"])
+            file.write(plan.text())
+        with mock.patch.object(carriers, "QUIET_START_SECONDS", 2), mock.patch.object(carriers, "PATIENT_SECONDS", 2.5):
+            return asyncio.run(go()), said
+
+    def test_a_start_says_which_nodes_it_waits_for(self):
+        self.assertEqual(self.started("c1", "c2"), (False, ["waits for c1 c2, which read their files"]))
+
+    def test_a_start_waits_for_all_for_a_minute(self):
+        self.assertEqual(self.started("c2", "a1"), (True, ["waits for c2 a1, which read their files"]))
 
 
 class LeftOutTest(Clocked):
