@@ -276,9 +276,12 @@ class Record:
     def write(self, content):
         self.bytes += len(content)
         rest = memoryview(content)
-        while rest:
-            rest = rest[self.file.write(rest):]
-        os.fdatasync(self.file.fileno())
+        try:
+            while rest:
+                rest = rest[self.file.write(rest):]
+            os.fdatasync(self.file.fileno())
+        except OSError as fault:
+            raise files.named(fault, self.file.name) from None
 
     async def flush(self):
         """Writes and syncs what waits, and then lets its effects happen. If who waits for that is cancelled, it goes on all the same: of

@@ -210,8 +210,9 @@ class FilesTest(unittest.TestCase):
 
     def test_a_file_that_cannot_be_written_leaves_the_one_before(self):
         files.write(self.path, b"one")
-        with mock.patch("os.fsync", side_effect=OSError(28, "No space left on device")), self.assertRaises(OSError):
+        with mock.patch("os.fsync", side_effect=OSError(28, "No space left on device")), self.assertRaises(OSError) as full:
             files.write(self.path, b"two")
+        self.assertEqual((full.exception.errno, full.exception.filename), (28, self.path))
         self.assertEqual((files.content_of(self.path), os.listdir(self.room.name)), (b"one", ["file"]))
 
     def test_a_file_that_is_replaced_keeps_its_mode(self):
