@@ -85,6 +85,12 @@ class Node:
     async def run(self):
         """Starts the process, again and again, and takes its blocks."""
         while not self.stopping:
+            try:
+                self.drop_cache()
+            except OSError as fault:
+                # a process that was started all the same could read what is not on the disk
+                await self.pause(f"is not started: {fault.filename}: {fault.strerror}", True)
+                continue
             await self.live()
             if self.stopping:
                 return
@@ -92,16 +98,15 @@ class Node:
                 between, self.between = self.between, None
                 await between()
             else:
-                await self.pause()
+                status = self.process.returncode
+                # a process that was killed may be started again at any time
+                await self.pause(f"was killed by signal {-status}" if status < 0 else f"ended with status {status} {self.reason}".rstrip(), status >= 0)
 
-    async def pause(self):
-        """Says how the process ended, and waits for a moment, or longer if it did so before."""
-        # a process that was killed may be started again at any time
-        self.vain_starts += self.process.returncode >= 0
+    async def pause(self, how, is_vain):
+        """Says what became of the process, and waits for a moment, or longer if that was so before."""
+        self.vain_starts += is_vain
         if self.vain_starts == MOST_VAIN_STARTS:
-            raise GivenUp(f"{self.name} ends whenever it is started {self.reason}".rstrip())
-        status = self.process.returncode
-        how = f"was killed by signal {-status}" if status < 0 else f"ended with status {status} {self.reason}".rstrip()
+            raise GivenUp(f"{self.name} {how}, {MOST_VAIN_STARTS} times in a row")
         self.say(f"{self.name} {how}, and is started again")
         await asyncio.sleep(FIRST_PAUSE * 2 ** self.vain_starts)
 
@@ -129,7 +134,6 @@ class Node:
 
     async def live(self):
         """One life of the process."""
-        self.drop_cache()
         pipe = asyncio.subprocess.PIPE
         process = await asyncio.create_subprocess_exec(
             *self.words, stdin=pipe, stdout=pipe, stderr=asyncio.subprocess.DEVNULL, limit=1 << 20, start_new_session=True)

@@ -147,9 +147,22 @@ class LeftOutTest(Clocked):
 
     def test_a_node_that_does_not_start_is_left_out(self):
         leaders, reasons = self.left_out("c0")
-        self.assertEqual((set(leaders), reasons), ({1}, {"c0": "c0 ends whenever it is started"}))
+        self.assertEqual((set(leaders), reasons), ({1}, {"c0": "c0 ended with status 1, 8 times in a row"}))
         leaders, reasons = self.left_out("a0", "a1")
         self.assertEqual((set(leaders), set(reasons)), ({1}, {"a0", "a1"}))
+
+    def test_a_node_whose_file_cannot_be_opened_is_left_out(self):
+        """As on a disk with a fault. Its process is not started: it could read what the disk does not have."""
+        real = nodes.files.drop_cache
+
+        def drop_cache(path):
+            if path.endswith("c0.facts"):
+                raise OSError(5, "Input/output error", path)
+            real(path)
+        with mock.patch.object(nodes.files, "drop_cache", drop_cache):
+            leaders, reasons = self.left_out("c0")
+        self.assertEqual(set(leaders), {1})
+        self.assertRegex(reasons["c0"], "^c0 is not started: .*c0.facts: Input/output error, 8 times in a row$")
 
     def test_nodes_that_the_service_needs_stop_it(self):
         for number, names in enumerate((["c0", "c2"], ["a0", "a1", "a2"], ["c1", "a0"])):
@@ -159,7 +172,7 @@ class LeftOutTest(Clocked):
     def fails_without(self, folder, *names, **plan):
         self.folder = os.path.join(self.room.name, str(folder))
         os.mkdir(self.folder)
-        with self.assertRaisesRegex(GivenUp, "ends whenever it is started"):
+        with self.assertRaisesRegex(GivenUp, "8 times in a row"):
             self.left_out(*names, **plan)
 
 
