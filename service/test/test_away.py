@@ -8,7 +8,7 @@ import stands
 from ksi_service.record import State, last_state
 from streamed import PYTHON, Streamed
 
-MOST = 20
+MOST = 60
 SMALL = f"""import sys
 sys.path.insert(0, {os.path.dirname(stands.COMMAND)!r})
 from ksi_service import command, streams
@@ -36,13 +36,13 @@ class AwayTest(Streamed):
         return int(told.stdout)
 
     def test_lines_for_a_node_that_is_away_have_a_bound(self):
-        self.assertIsNotNone(self.sign(0))
+        self.assertIsNotNone(self.sign(29))
         self.kill("c2")
-        for number in range(1, 25):
-            self.assertIsNotNone(self.sign(number))
-            time.sleep(0.5)
+        # each second's ballot is three lines for it at least, also where nothing is signed
+        time.sleep(40)
+        self.assertIsNotNone(self.sign(1))
         # who sends looks for it twice a second
-        self.assertLess(self.waiting("c2"), MOST + 30)
+        self.assertLess(self.waiting("c2"), MOST + 20)
         self.host("c2")
         self.assertIsNotNone(self.sign(30))
         for _ in range(100):
@@ -51,10 +51,10 @@ class AwayTest(Streamed):
             time.sleep(0.1)
         self.assertIsNotNone(self.sign(31))
         record = self.stop()
-        self.assertLess(len(last_state(record)[0].sent), MOST)
+        self.assertLess(len(last_state(record)[0].sent), 20)
         with open(os.path.join(record, "00000001"), encoding="ascii") as file:
             self.assertGreater(sum(line.startswith('["did"') and line.endswith("],1]\n") for line in file), 5)
-        self.checked(25)
+        self.checked(4)
 
 
 if __name__ == "__main__":
