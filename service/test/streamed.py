@@ -146,7 +146,7 @@ class Streamed(unittest.TestCase):
     def sign(self, number):
         for _ in range(300):
             try:
-                status, content = self.ask("/sign", f"{number:064x}")
+                status, content = self.ask("/sign", f"{number + 1:064x}")
                 if status == 200:
                     return content
             except (OSError, http.client.HTTPException):
