@@ -50,7 +50,17 @@ def make(folder, out, last, say=print):
     if not made:
         raise reason
     for part in range(len(parts(plan, last))):
-        say(f"part {part}: {ksi('whole', at(f'mirror.{part}'), at(f'journal.{part}'))}")
+        say(f"part {part}: {whole(at(f'mirror.{part}'), at(f'journal.{part}'))}")
+
+
+def whole(mirror, journal):
+    """Makes the journal of a mirror. What a second's root was made of is in the file of the core alone that sealed it."""
+    try:
+        return ksi("whole", mirror, journal)
+    except Refused as refused:
+        if refused.line.startswith("refused M4 "):
+            raise Refused(refused.status, f"{mirror} is saved, and has no journal: no core's file tells what a second's root was made of ({refused})") from None
+        raise
 
 
 def merge(core, number, plan, last, at, made, say):

@@ -145,7 +145,7 @@ class Network:
         patient = time.monotonic() + PATIENT_SECONDS
         missing = lambda: [name for name, node in self.nodes.items() if not node.alive and name not in self.left_out]
         enough = lambda: not missing() or time.monotonic() > patient and self.plan.may_sign({it for it, node in self.nodes.items() if node.alive})
-        await until(enough, self, lambda: f"waits for {' '.join(missing())}, which read their files")
+        await until(enough, self, lambda: f"waits for {' '.join(missing())}, which read their files or do not start")
 
     async def forget(self, aggregator, before):
         """Lets an aggregator forget rounds of seconds before this one. Returns how many facts are left, and how many there were."""

@@ -43,6 +43,13 @@ class StoppedTest(unittest.TestCase):
             self.hold("c2")
             self.assertRaisesRegex(Refused, "c2 ended", backup.make, self.folder, os.path.join(self.folder, "other"), 9, told.append)
 
+    def test_a_backup_without_what_a_root_was_made_of_says_so(self):
+        def ksi(word, *_):
+            if word == "whole":
+                raise Refused(1, "refused M4 7")
+        with mock.patch.object(backup, "ksi", ksi), self.assertRaisesRegex(Refused, r"mirror.0 is saved, and has no journal: .* \(refused M4 7\)$"):
+            backup.make(self.folder, os.path.join(self.folder, "backup"), 9, lambda text: None)
+
     def test_another_core_extends(self):
         with mock.patch.object(extension, "extend_by", lambda core, *_: (None, core.name)):
             self.assertEqual(extension.extend_stopped(self.folder, b"", None), "c1")
