@@ -92,10 +92,13 @@ class TurnsTest(Clocked):
             for name in words:
                 network.nodes[name].words = ["/bin/sleep", "1000"]
                 network.nodes[name].kill()
-            await asyncio.sleep(1)
-            before = network.record.bytes
+            while any(network.nodes[name].alive for name in words):
+                await asyncio.sleep(0.01)
+            # what was on its way comes to its end
             await asyncio.sleep(2)
-            after = network.record.bytes
+            before = network.record.node("c0").facts
+            await asyncio.sleep(2)
+            after = network.record.node("c0").facts
             for name in words:
                 network.nodes[name].words = words[name]
                 network.nodes[name].kill()
