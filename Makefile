@@ -24,6 +24,9 @@ ARCHIVE = crates/ksi_c/out/libksi_c.a
 SONAME = libksi.so.1
 ROOT = $(DESTDIR)$(PREFIX)
 DOC = $(ROOT)/share/doc/ksi
+# what units, ksi.pc and the shell would read as something else, beside a space: such a prefix is refused
+ODD = % | \ " ' $$ `
+IS_ODD = $(strip $(foreach it,$(ODD),$(findstring $(it),$(PREFIX)))$(word 2,x$(PREFIX)x))
 # as sed puts it in a file
 FILLED = s|@PREFIX@|$(subst &,\&,$(PREFIX))|
 UNITS = ksi-service.service ksi-head.service ksi-node@.service
@@ -61,6 +64,7 @@ check:
 	.ci/run
 
 install-service:
+	$(if $(IS_ODD),$(error PREFIX has a space or one of $(ODD), which units and ksi.pc cannot have))
 	install -Dm755 $(PROGRAM) "$(ROOT)/bin/ksi"
 	install -Dm755 service/ksi-service "$(ROOT)/lib/ksi/ksi-service"
 	install -d "$(ROOT)/lib/ksi/ksi_service" "$(ROOT)/lib/systemd/system" "$(ROOT)/lib/sysusers.d"

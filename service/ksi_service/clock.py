@@ -13,6 +13,8 @@ TRIES = 40
 """How often a step is tried again before its second is given up."""
 TURNS = 60
 """How often a request is made again before it is refused."""
+PAUSE = 0.25
+"""How many seconds lie between two looks for a majority of the cores."""
 AFTER = 1.01
 """How long behind its beginning a second is driven, so that requests for it have come."""
 LOOK_SECONDS = 1.0
@@ -21,6 +23,10 @@ MOST_WAITING = 10_000
 """How many requests may wait for their signatures at once."""
 MOST_AT_ONCE = 16
 """How many seconds are driven at once: after a standstill the missed ones are decided in groups of so many."""
+
+
+MOST_TOLD = 2
+"""How many times a core is told what it lacks, so many seconds at once, before it responds. One that lacks more leads none meanwhile."""
 
 
 class Busy(Exception):
@@ -54,6 +60,8 @@ class Clock:
         self.asked = {}
         self.resting = set()
         """Aggregators that take no requests for now."""
+        self.behind = {}
+        """Cores that lack many seconds, each with the task that tells it."""
         self.handed = {}
         """The last second of which each aggregator had a part in a signature."""
         self.number = int(now() * 1000) << 20
@@ -92,7 +100,7 @@ class Clock:
             for later in range(self.plan.cores + 1):
                 leader = self.plan.leader(second + later)
                 up = [it for it in self.plan.below[leader] if all(map(self.takes, self.plan.ways[it]))]
-                if up and self.network.core(leader).alive:
+                if up and self.network.core(leader).alive and leader not in self.behind:
                     self.turns[leader] += 1
                     return second + later, up[self.turns[leader] % len(up)]
             # all that wait look again and again, and leave time for the others
@@ -164,6 +172,10 @@ class Clock:
         for turn in range(TRIES):
             if self.network.decided.get(second):
                 return
+            if not self.is_majority():
+                # a ballot would be facts for nothing
+                await asyncio.sleep(PAUSE)
+                continue
             core = self.network.core((first + turn // 3) % self.plan.cores)
             try:
                 await core.ask(f"seal {second}")
@@ -171,6 +183,10 @@ class Clock:
                 await self.network.quiet(second)
             except Down:
                 await asyncio.sleep(0.02)
+
+    def is_majority(self):
+        """Whether a majority of the cores is up."""
+        return 2 * sum(self.network.core(it).alive for it in range(self.plan.cores)) > self.plan.cores
 
     async def hold(self, core, second):
         """Sees to it that a core holds a second, by another core that tells it, or by a ballot."""
@@ -187,10 +203,11 @@ class Clock:
             self.network.decided[second] = None
         await self.decide(second, core)
 
-    async def held(self, core, text):
-        """A step of a core that wants all seconds held: those that it lacks, the first one first, are told to it before."""
-        tries, lacking = 0, None
-        while tries < TRIES:
+    async def held(self, core, text, most=None):
+        """A step of a core that wants all seconds held up to one: those that it lacks, the first ones first, are told to it before, but
+        at most so many times."""
+        tries, lacking, times = 0, None, 0
+        while tries < TRIES and times != most:
             try:
                 words = (await self.network.core(core).ask(text))[0].split(" ")
             except Down:
@@ -199,14 +216,27 @@ class Clock:
                 continue
             if words[1] != "undecided":
                 return words
-            tries = tries + 1 if lacking == words[2] else 0
+            tries, times = tries + 1 if lacking == words[2] else 0, times + 1
             lacking = words[2]
-            await self.hold(core, int(lacking))
+            last = min(int(lacking) + MOST_AT_ONCE - 1, int(text.split(" ")[1]))
+            await asyncio.gather(*(self.hold(core, it) for it in range(int(lacking), last + 1)))
         return None
+
+    def tell_all(self, core, second):
+        """Lets a core be told all that it lacks. It leads no second meanwhile: requests would wait for it."""
+        async def tell():
+            try:
+                await self.held(core, f"publish {second}")
+            finally:
+                del self.behind[core]
+        if core not in self.behind:
+            self.behind[core] = asyncio.create_task(tell())
 
     async def respond(self, second, core):
         for _ in range(TRIES):
-            words = await self.held(core, f"respond {second}")
+            words = await self.held(core, f"respond {second}", MOST_TOLD)
+            if words is None:
+                self.tell_all(core, second)
             if words is None or words[1] != "done":
                 return
             await self.network.quiet(second)
@@ -257,8 +287,9 @@ class Clock:
 
     async def publish_by_any(self, second, first=0):
         """Lets a core publish a second, from the first one on the one that can. Returns whether one did."""
-        for turn in range(self.plan.cores):
-            if await self.publish((first + turn) % self.plan.cores, second) is not None:
+        cores = [(first + turn) % self.plan.cores for turn in range(self.plan.cores)]
+        for core in sorted(cores, key=self.behind.__contains__):
+            if await self.publish(core, second) is not None:
                 return True
         self.say(f"second {second} is not published: no core that is up holds all seconds to it")
         return False
@@ -299,6 +330,7 @@ class Clock:
                     tasks.add(asyncio.create_task(self.publish_by_any(second - 2, second % self.plan.cores)))
                 second += 1
         finally:
+            tasks.update(self.behind.values())
             for task in tasks:
                 task.cancel()
             await asyncio.gather(*tasks, return_exceptions=True)

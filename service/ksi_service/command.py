@@ -20,13 +20,13 @@ from . import backup as backing
 from . import forget as forgetting
 from . import replay as replaying
 from . import extension, files, hours, service, streams
-from .calendar import Calendar
 from .clock import PlanEnded
 from .elements import Malformed, parts_of, published_in
+from .network import WITHOUT
 from .node import Down, GivenUp, LostFacts
-from .plan import Odd, Plan
+from .plan import Odd
 from .programs import Missing
-from .proved import Refused, Stopped, ksi
+from .proved import Refused, ksi
 from .publications import Publications
 from .record import Broken, last_state
 
@@ -102,7 +102,7 @@ def start(words):
         if child.poll() is not None:
             raise Failed(f"it did not start: {reason_in(path, before)}")
         if address := door_of(words.folder, child.pid):
-            print(f"started over {words.folder}, the door is http://{address}")
+            print(*(row for row in rows_in(path, before) if WITHOUT in row), f"started over {words.folder}, the door is http://{address}", sep="\n")
             return
         if not told and time.monotonic() - began > LONG_SECONDS:
             print(f"its nodes still read their files, or are away: see {path}", flush=True)
@@ -121,11 +121,16 @@ def door_of(folder, number):
         return None
 
 
-def reason_in(path, before):
-    """Why a service ended, by what its log has behind a place. Another service over the folder may write to it too."""
+def rows_in(path, before):
+    """The lines of a log behind a place. Another service over the folder may write to it too."""
     with open(path, "rb") as log:
         log.seek(before)
-        rows = log.read().decode(errors="replace").splitlines()
+        return log.read().decode(errors="replace").splitlines()
+
+
+def reason_in(path, before):
+    """Why a service ended, by what its log has behind a place."""
+    rows = rows_in(path, before)
     hint = f"see {path}" if rows else "its log says nothing, as on a full disk"
     return next((row[len("ksi-service: "):] for row in reversed(rows) if row.startswith("ksi-service: ")), hint)
 
@@ -212,12 +217,12 @@ def at_rest(folder):
 
 
 def extended_by_file(folder, signature):
-    with at_rest(folder), Stopped(folder, "c0") as core:
+    with at_rest(folder):
         published = Publications(folder)
         if published.last() is None:
             raise Failed(f"nothing was published yet over {folder}")
         try:
-            return extension.extend_by(core, Calendar(Plan.read(os.path.join(folder, "plan")).start), signature, published)[1]
+            return extension.extend_stopped(folder, signature, published)
         except extension.NotExtended as reason:
             raise Failed(str(reason)) from None
 

@@ -168,6 +168,8 @@ class Door:
         found = HASH.fullmatch(await request.body(256)) if request.left <= 256 else None
         if not found:
             raise Answer(HTTPStatus.BAD_REQUEST, "a hash has 64 hex digits; a document is sent as application/octet-stream")
+        if not found[1].strip(b"0"):
+            raise Answer(HTTPStatus.BAD_REQUEST, "64 zeros stand for a missed second, and are no file's hash")
         return found[1].decode().lower()
 
     @contextlib.contextmanager

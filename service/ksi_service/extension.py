@@ -3,8 +3,10 @@ to accept the result before it is handed out; so nothing rests on how it was put
 import os
 import tempfile
 
+from .calendar import Calendar
 from .elements import Malformed, extended, parts_of
-from .proved import Refused, ksi
+from .plan import Plan
+from .proved import Refused, Stopped, ksi
 
 AT_ONCE = 1024
 """Of how many seconds a core tells at once."""
@@ -98,3 +100,15 @@ def extend_by(core, calendar, signature, publications):
         if end.value is None:
             raise NotExtended(f"{core.name} lacks a second up to {last}") from None
         return parts, accepted(end.value, parts, publications.path)
+
+
+def extend_stopped(folder, signature, publications):
+    """Extends by a core's file of a service that is stopped: of the first one that can be read and holds all seconds."""
+    plan, reasons = Plan.read(os.path.join(folder, "plan")), []
+    for number in range(plan.cores):
+        try:
+            with Stopped(folder, f"c{number}") as core:
+                return extend_by(core, Calendar(plan.start), signature, publications)[1]
+        except (NotExtended, Refused) as reason:
+            reasons.append(reason)
+    raise next((it for it in reasons if isinstance(it, NotExtended)), reasons[0])

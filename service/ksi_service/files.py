@@ -109,9 +109,14 @@ def write(name, content):
                 os.fchmod(file.fileno(), os.stat(name).st_mode & 0o777)
             file.write(content)
         keep(made, name)
-    except OSError:
+    except OSError as fault:
         remove(made)
-        raise
+        raise named(fault, name) from None
+
+
+def named(fault, name):
+    """A fault with the file that it came at: a write or a sync does not tell it."""
+    return OSError(fault.errno, fault.strerror, fault.filename or name)
 
 
 def remove(name):

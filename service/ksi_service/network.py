@@ -3,12 +3,17 @@ import asyncio
 import collections
 import os
 import random
+import time
 
 from .forget import forget_between
-from .node import Line, Node
+from .node import GivenUp, Line, LostFacts, Node
 from .programs import program
 from .record import Record
 
+WITHOUT = "the service goes on without"
+"""What is said of a node that is left out."""
+QUIET_START_SECONDS, PATIENT_SECONDS = 5, 60
+"""How long a start waits for nodes before it says for which; and how long for all of them, where fewer are enough."""
 MOST_DECIDED = 4096
 """How many seconds back the host remembers what was decided; the cores remember all."""
 
@@ -40,23 +45,42 @@ def decree_of(text):
     return words[4] if words[0] == "synod" and words[3] == "success" else None
 
 
+async def until(is_ready, network, what):
+    """Waits until nodes are ready, or a task of their network fails. Says once what it waits for, if that is long."""
+    began, told = time.monotonic(), False
+    while not is_ready():
+        for task in network.tasks:
+            if task.done():
+                task.result()
+        if not told and time.monotonic() - began > QUIET_START_SECONDS:
+            network.say(what())
+            told = True
+        await asyncio.sleep(0.02)
+
+
 class Network:
     def __init__(self, folder, plan, trouble=None, say=lambda text: None):
-        self.folder, self.plan, self.trouble, self.lost = folder, plan, trouble, 0
+        self.folder, self.plan, self.trouble, self.lost, self.say = folder, plan, trouble, 0, say
         self.record = Record(os.path.join(folder, "record"), plan.text())
         words = [program("ksi_serve"), os.path.join(folder, "plan")]
         self.nodes = {
-            name: Node(name, [*words, name, folder, f"{name}.facts"], self.record, self.route, say)
+            name: Node(name, [*words, name, folder, f"{name}.facts"], self.record, self.route, say, lambda name=name: self.may_lack(name))
             for name in plan.names()}
         self.flights, self.calm = collections.Counter(), {}
         self.decided, self.seconds_decided = collections.OrderedDict(), 0
-        self.tasks = []
+        self.tasks, self.ending = [], None
+        self.left_out = {}
+        """Nodes that are used no more, each with the reason."""
 
     def core(self, number):
         return self.nodes[f"c{number}"]
 
     def aggregator(self, number):
         return self.nodes[f"a{number}"]
+
+    def may_lack(self, name):
+        """Whether the other nodes that are up can sign."""
+        return self.plan.may_sign({it for it, node in self.nodes.items() if node.alive and it != name})
 
     def route(self, step, block):
         """Gives on the messages of a step. They are behind it in the record, so they leave only when it is on the disk."""
@@ -99,15 +123,29 @@ class Network:
             await self.calm.setdefault(second, asyncio.Event()).wait()
 
     def begin(self, cut_every=3600.0):
-        self.tasks = [asyncio.create_task(it) for it in (self.record.run(cut_every), *(node.run() for node in self.nodes.values()))]
+        self.ending = asyncio.Event()
+        self.tasks = [asyncio.create_task(it) for it in (self.record.run(cut_every), *map(self.keep, self.nodes.values()))]
         return self.tasks
 
+    async def keep(self, node):
+        """Runs a node. One that cannot be used is left out until the service is started again, if the others are enough. It is given
+        nothing more: a core whose file lacks facts would vote twice."""
+        try:
+            await node.run()
+        except (GivenUp, LostFacts) as reason:
+            node.leave_alone()
+            self.left_out[node.name] = str(reason)
+            if not self.plan.may_sign(self.nodes.keys() - self.left_out.keys()):
+                raise
+            self.say(f"{reason}: {WITHOUT} {node.name} until it is started again")
+            await self.ending.wait()
+
     async def ready(self):
-        while not all(node.alive for node in self.nodes.values()):
-            for task in self.tasks:
-                if task.done():
-                    task.result()
-            await asyncio.sleep(0.01)
+        """Waits until all nodes are up, but for those that are left out; or for so long, and until those that are up are enough."""
+        patient = time.monotonic() + PATIENT_SECONDS
+        missing = lambda: [name for name, node in self.nodes.items() if not node.alive and name not in self.left_out]
+        enough = lambda: not missing() or time.monotonic() > patient and self.plan.may_sign({it for it, node in self.nodes.items() if node.alive})
+        await until(enough, self, lambda: f"waits for {' '.join(missing())}, which read their files or do not start")
 
     async def forget(self, aggregator, before):
         """Lets an aggregator forget rounds of seconds before this one. Returns how many facts are left, and how many there were."""
@@ -116,6 +154,7 @@ class Network:
 
     async def stop(self):
         """Ends the nodes by the end of their input, and writes what is left of the record."""
+        self.ending.set()
         for node in self.nodes.values():
             node.end()
         writing, *living = self.tasks

@@ -16,6 +16,9 @@ FIRST_PAUSE = 0.05
 """How many seconds lie between an end and the next start, if it is the first in a row."""
 SILENT_SECONDS = 30
 """How long a node may be silent about a line that it was given. Then it is killed: what waits for it would wait for ever."""
+LOOK_SECONDS, LATE_LOOKS = 0.5, 6
+"""How often is looked for a line that a node did not answer, and how many looks make the node late. It is left alone then until it has
+answered all that it was given: what waited for it goes on with others, and messages to it are lost, as those to a node that is down."""
 MOST_LINES = 1024
 """How many lines are on their way to a node at once; the others wait. Each waits for two writes of the record."""
 
@@ -38,6 +41,8 @@ class Line:
     def __init__(self, text, message=None):
         self.text, self.message = text, message
         self.answer = asyncio.get_running_loop().create_future()
+        self.sent = 0
+        """How often its node had been looked at before."""
         self.step = None
         """Which step of the record it was."""
         self.is_question = word(text) in QUESTIONS
@@ -55,14 +60,22 @@ class Line:
 
 
 class Node:
-    def __init__(self, name, words, record, on_step, say=lambda text: None):
+    def __init__(self, name, words, record, on_step, say=lambda text: None, may_lack=lambda: True):
         self.name, self.words, self.record, self.on_step, self.say = name, words, record, on_step, say
+        self.may_lack = may_lack
+        """Whether the others can go on without it for a while."""
         self.waiting, self.flying, self.storing = deque(), deque(), 0
-        self.alive, self.stopping, self.starts, self.unsaid, self.refused = False, False, 0, 0, 0
+        self.runs, self.late, self.looks = False, False, 0
+        self.stopping, self.starts, self.unsaid, self.refused = False, 0, 0, 0
         self.process, self.vain_starts, self.reason = None, 0, ""
         self.ready_lines, self.between = [], None
         self.owed, self.heard = 0, 0
         """How many blocks the process owes for lines that were written to it, or its end; and how many blocks there were."""
+
+    @property
+    def alive(self):
+        """Whether it takes lines."""
+        return self.runs and not self.late
 
     @property
     def restarts(self):
@@ -72,6 +85,12 @@ class Node:
     async def run(self):
         """Starts the process, again and again, and takes its blocks."""
         while not self.stopping:
+            try:
+                self.drop_cache()
+            except OSError as fault:
+                # a process that was started all the same could read what is not on the disk
+                await self.pause(f"is not started: {fault.filename}: {fault.strerror}", True)
+                continue
             await self.live()
             if self.stopping:
                 return
@@ -79,16 +98,15 @@ class Node:
                 between, self.between = self.between, None
                 await between()
             else:
-                await self.pause()
+                status = self.process.returncode
+                # a process that was killed may be started again at any time
+                await self.pause(f"was killed by signal {-status}" if status < 0 else f"ended with status {status} {self.reason}".rstrip(), status >= 0)
 
-    async def pause(self):
-        """Says how the process ended, and waits for a moment, or longer if it did so before."""
-        # a process that was killed may be started again at any time
-        self.vain_starts += self.process.returncode >= 0
+    async def pause(self, how, is_vain):
+        """Says what became of the process, and waits for a moment, or longer if that was so before."""
+        self.vain_starts += is_vain
         if self.vain_starts == MOST_VAIN_STARTS:
-            raise GivenUp(f"{self.name} ends whenever it is started {self.reason}".rstrip())
-        status = self.process.returncode
-        how = f"was killed by signal {-status}" if status < 0 else f"ended with status {status} {self.reason}".rstrip()
+            raise GivenUp(f"{self.name} {how}, {MOST_VAIN_STARTS} times in a row")
         self.say(f"{self.name} {how}, and is started again")
         await asyncio.sleep(FIRST_PAUSE * 2 ** self.vain_starts)
 
@@ -104,7 +122,7 @@ class Node:
                 done.done() or done.set_result(result)
             except Exception as reason:
                 done.done() or done.set_exception(reason)
-        self.alive, self.between = False, between
+        self.runs, self.between = False, between
         while self.flying and self.process.returncode is None:
             await asyncio.sleep(0.002)
         self.process.stdin.close()
@@ -116,7 +134,6 @@ class Node:
 
     async def live(self):
         """One life of the process."""
-        self.drop_cache()
         pipe = asyncio.subprocess.PIPE
         process = await asyncio.create_subprocess_exec(
             *self.words, stdin=pipe, stdout=pipe, stderr=asyncio.subprocess.DEVNULL, limit=1 << 20, start_new_session=True)
@@ -132,22 +149,43 @@ class Node:
         except ConnectionError:
             pass
         finally:
-            self.alive = False
+            self.runs = False
             process.stdin.close()
             await process.wait()
             watching.cancel()
-            for line in self.waiting:
-                line.fail(self.name)
-            self.waiting.clear()
+            self.drop_waiting()
+
+    def drop_waiting(self):
+        for line in self.waiting:
+            line.fail(self.name)
+        self.waiting.clear()
 
     async def watch(self):
-        """Kills the process if it is silent, as one that is stopped, or whose disk does not return."""
+        """Looks whether the node is late. Kills the process if it is silent, as one that is stopped, or whose disk does not return."""
+        silent, heard, written = 0, self.heard, self.record.groups
         while True:
-            owed, heard = self.owed, self.heard
-            await asyncio.sleep(SILENT_SECONDS)
-            if owed and heard == self.heard:
+            await asyncio.sleep(LOOK_SECONDS)
+            silent = silent + 1 if self.owed and heard == self.heard else 0
+            # while the record's disk does not return, no line is given and no answer is on the record: that is not the node's delay
+            self.looks += written != self.record.groups or not self.record.writes
+            heard, written = self.heard, self.record.groups
+            if self.runs and not self.late and self.is_late() and self.may_lack():
+                self.leave_alone()
+            if silent * LOOK_SECONDS >= SILENT_SECONDS:
                 self.say(f"{self.name} is silent, and is killed")
                 self.kill()
+                silent = 0
+
+    def is_late(self):
+        """Whether its oldest line is not answered for long."""
+        return any(self.looks - lines[0].sent > LATE_LOOKS for lines in (self.flying, self.waiting) if lines)
+
+    def leave_alone(self):
+        """Waits no more for what it was given or sent."""
+        self.late = True
+        for line in self.flying:
+            line.fail(self.name)
+        self.drop_waiting()
 
     async def blocks(self, process):
         """Each block that the process writes, until it ends. Lines are given on behind all blocks that came at once."""
@@ -182,13 +220,14 @@ class Node:
         for line in flying:
             line.fail(self.name)
         self.starts += 1
-        self.alive = True
+        self.runs, self.late = True, False
 
     def answered(self, block):
         line = self.flying.popleft()
         self.owed, self.heard = self.owed - 1, self.heard + 1
         self.storing -= line.may_store
         self.vain_starts = 0
+        self.late = self.late and bool(self.flying)
         if line.is_question:
             self.record.after(lambda: line.answered(block))
             return
@@ -232,6 +271,7 @@ class Node:
     def send(self, line):
         """Puts a line on its way. A node that is down takes none."""
         if self.alive:
+            line.sent = self.looks
             self.waiting.append(line)
             self.pump()
         else:

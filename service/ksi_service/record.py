@@ -14,7 +14,8 @@ It is a folder of files, cut from time to time, each but the last compressed. On
 Where the nodes are on other machines, their own logs are put together to a record of these entries (remote.py):
 
     ["did", NODE, NUMBER, ID, LINE, FROM, BLOCK]   the node took the line with this ID; FROM is null, or NODE ID PLACE of the line
-                                                   that it was sent for; NUMBER is the entry's in the node's log
+                                                   that it was sent for; NUMBER is the entry's in the node's log. Behind the block
+                                                   may be how many of its messages were not sent
     ["restarted", NODE, NUMBER, AGAIN, FOUND]      the node's process was started and found so many facts; AGAIN is 0 at its first start
 
 Steps are numbered from 0 in the order of the record: a block that is no refusal, a line that happened and was never answered, and
@@ -147,12 +148,12 @@ class State:
     def take_signed(self, step, text):
         return [Signed(step, text)]
 
-    def take_did(self, name, number, identity, line, sender, block):
+    def take_did(self, name, number, identity, line, sender, block, lost=0):
         self.seen[name] = number
         node = self.node(name)
         node.facts = (node.facts or 0) + (word(line) in MAY_STORE if block is None else is_stored(block))
         message = self.came(sender) if sender else None
-        sends = sum(row.startswith("send ") for row in block or [])
+        sends = sum(row.startswith("send ") for row in block or []) - lost
         if sends:
             self.sent[f"{name} {identity}"] = [self.steps, sends]
         if line.startswith("seal "):
@@ -221,6 +222,8 @@ class Record:
         self.waiting, self.wanted = [], asyncio.Event()
         self.flushing: Optional[asyncio.Task] = None
         """The last group on its way to the disk."""
+        self.groups = 0
+        """How many groups came to the disk."""
         self.writer, self.packer = concurrent.futures.ThreadPoolExecutor(1), concurrent.futures.ThreadPoolExecutor(1)
         self.packing: List[concurrent.futures.Future] = []
         files.make_folder(folder)
@@ -273,9 +276,12 @@ class Record:
     def write(self, content):
         self.bytes += len(content)
         rest = memoryview(content)
-        while rest:
-            rest = rest[self.file.write(rest):]
-        os.fdatasync(self.file.fileno())
+        try:
+            while rest:
+                rest = rest[self.file.write(rest):]
+            os.fdatasync(self.file.fileno())
+        except OSError as fault:
+            raise files.named(fault, self.file.name) from None
 
     async def flush(self):
         """Writes and syncs what waits, and then lets its effects happen. If who waits for that is cancelled, it goes on all the same: of
@@ -295,9 +301,15 @@ class Record:
             except BaseException:
                 self.failed = True
                 raise
+        self.groups += 1
         for _, effect in waiting:
             if effect is not None:
                 effect()
+
+    @property
+    def writes(self):
+        """Whether a group is on its way to the disk."""
+        return self.flushing is not None and not self.flushing.done()
 
     async def run(self, cut_every=3600.0):
         """Writes what is added, and cuts the record so often."""

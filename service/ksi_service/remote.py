@@ -12,7 +12,7 @@ import time
 
 from .forget import NotForgotten
 from .hours import Broken
-from .network import MOST_DECIDED, decree_of, second_of
+from .network import MOST_DECIDED, decree_of, second_of, until
 from .node import Down, Line
 from .record import Record
 from .streams import ALIVE_MILLISECONDS, connect, errors, patiently
@@ -92,6 +92,8 @@ class RemoteNetwork:
         self.moved = asyncio.Event()
         self.to_send, self.asked, self.asks, self.ended = queue.Queue(), {}, int(time.time() * 1000) << 20, False
         self.on_disk, self.tasks = {}, []
+        self.left_out = {}
+        """None: the host of a node that cannot be used ends, and the node is away."""
 
     def core(self, number):
         return self.nodes[f"c{number}"]
@@ -255,24 +257,24 @@ class RemoteNetwork:
             self.nodes[name].restarts += "restart" in fields
             return
         sender, block = fields.get("from"), fields["said"].split("\n") if "said" in fields else None
+        lost = fields.get("lost", "").split()
         line = self.asked.pop(fields["ask"], (None, None))[1] if "ask" in fields else None
 
         def effect():
             on_disk()
             if line:
                 line.answered(block) if block else line.fail(name)
-        step = self.record.add(["did", name, number, fields["id"], fields["line"], sender, block], effect)
+        step = self.record.add(["did", name, number, fields["id"], fields["line"], sender, block, *([len(lost)] if lost else [])], effect)
         if line:
             line.step = step if block else None
         if sender is not None:
             self.flights[second_of(fields["line"])][name] -= 1
-        for row in block or []:
-            if row.startswith("send "):
-                self.note_sent(*row.split(" ", 2)[1:])
+        for place, row in enumerate(it for it in block or [] if it.startswith("send ")):
+            self.note_sent(*row.split(" ", 2)[1:], str(place) in lost)
 
-    def note_sent(self, to, text):
+    def note_sent(self, to, text, is_lost):
         second, decree = second_of(text), decree_of(text)
-        self.flights[second][to] += 1
+        self.flights[second][to] += not is_lost
         if decree and not self.decided.get(second):
             self.seconds_decided += second not in self.decided
             self.decided[second] = decree
@@ -294,16 +296,9 @@ class RemoteNetwork:
 
     async def ready(self):
         """Waits until a majority of the cores is up, and an aggregator below one of them."""
-        while not self.may_begin():
-            for task in self.tasks:
-                if task.done():
-                    task.result()
-            await asyncio.sleep(0.05)
-
-    def may_begin(self):
-        up = [number for number in range(self.plan.cores) if self.core(number).alive]
-        below = [it for number in up for it in self.plan.below[number] if self.aggregator(it).alive]
-        return 2 * len(up) > self.plan.cores and bool(below)
+        up = lambda: [name for name, node in self.nodes.items() if node.alive]
+        await until(lambda: self.plan.may_sign(up()), self,
+                    lambda: f"waits for a majority of the cores and an aggregator below one of them, and sees {' '.join(up()) or 'no node'}")
 
     async def stop(self):
         """Lets the threads end, and writes what is left of the record. The nodes go on: so it is waited for what they were asked, as to

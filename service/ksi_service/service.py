@@ -197,6 +197,7 @@ class Service:
         return {
             "up_seconds": int(time.monotonic() - self.began),
             "nodes": len(nodes), "nodes_up": sum(node.alive for node in nodes.values()),
+            "nodes_left_out": len(self.network.left_out), **({"left_out": self.network.left_out} if self.network.left_out else {}),
             "node_restarts": sum(node.restarts for node in nodes.values()),
             "door_connections": len(self.door.open) if self.door else 0, "door_refused": self.door.refused if self.door else 0,
             "lines_refused": sum(node.refused for node in nodes.values()),
@@ -210,7 +211,7 @@ class Service:
 
     def processes(self):
         """The numbers of the nodes' processes that run on this machine."""
-        return {name: node.process.pid for name, node in self.network.nodes.items() if node.alive and node.process}
+        return {name: node.process.pid for name, node in self.network.nodes.items() if node.process and node.process.returncode is None}
 
     async def idle(self, seconds):
         """Waits until no request waits, but not for long."""

@@ -3,7 +3,8 @@
     ksi:plan          the plan, a string
     ksi:head          which run of a head is there
     ksi:to:NODE       lines for a node: line, and from (NODE ID PLACE, of the line that made it and which of its messages it is) or ask
-    ksi:log:NODE      what the node did: id, line, from, ask, said (its block), or unsaid; or ready and, but for the first start, restart
+    ksi:log:NODE      what the node did: id, line, from, ask, said (its block) and lost (which messages were not sent), or unsaid; or
+                      ready and, but for the first start, restart
     ksi:said:NODE     what changed nothing: ask, said. Refusals, answers to questions and what was forgotten; the last few thousand are kept
     ksi:facts:NODE    how many facts the node has acknowledged; between two starts that it forgets, how many are left, and how many were
     ksi:done:NODE     the last transaction of the node's host
@@ -23,6 +24,7 @@ import time
 from . import files
 from .forget import Left
 from .node import FIRST_PAUSE, MOST_VAIN_STARTS, SILENT_SECONDS, GivenUp, LostFacts
+from .plan import Plan
 from .programs import Missing as MissingProgram
 from .programs import program
 from .proved import Refused
@@ -32,6 +34,8 @@ GROUP, READER = "host", "one"
 MOST_AT_ONCE = 256
 """How many lines a host takes at once."""
 MOST_SAID = 20_000
+MOST_LINES = 10_000
+"""How many lines may wait for a node, as one that is away: 55 minutes of them where nothing is signed. What it lacks of more it is told."""
 ALIVE_MILLISECONDS = 1500
 BLOCK_MILLISECONDS = 500
 FORGET = re.compile(r"forget (0|[1-9][0-9]{0,18})")
@@ -135,6 +139,8 @@ class NodeHost:
         """The last transaction for this node, and whether it was this host's."""
         self.forgotten = None
         """A line that was to forget, and what is said to it with the next start."""
+        self.addressees, self.full = set(), set()
+        """The nodes that it sends to, and those of them for which too many lines wait: a message to these is not sent."""
 
     def run(self):
         """Serves until the process of this host is ended."""
@@ -163,6 +169,8 @@ class NodeHost:
         if files.content_of(path) not in (None, plan.encode()):
             raise LostFacts(f"{self.folder} has another plan than the server")
         files.write(path, plan.encode())
+        if self.name not in Plan.read(path).names():
+            raise LostFacts(f"the plan has no {self.name}, but {Plan.read(path).told()}")
         try:
             self.client.xgroup_create(self.to, GROUP, "0", mkstream=True)
         except redis.ResponseError as there:
@@ -266,7 +274,15 @@ class NodeHost:
         now = time.monotonic()
         if now - self.told_alive > ALIVE_MILLISECONDS / 4000:
             self.patiently(lambda: self.client.set(f"ksi:alive:{self.name}", self.run_id, px=ALIVE_MILLISECONDS))
+            self.patiently(self.look_for_full)
             self.told_alive = now
+
+    def look_for_full(self):
+        """Looks for whom too many lines wait."""
+        pipe, names = self.client.pipeline(transaction=False), sorted(self.addressees)
+        for name in names:
+            pipe.xlen(f"ksi:to:{name}")
+        self.full = {name for name, count in zip(names, pipe.execute() if names else []) if count > MOST_LINES}
 
     def take(self, lines):
         """Gives lines to the process, and has what came of them on the server."""
@@ -286,10 +302,13 @@ class NodeHost:
         if word(fields["line"]) in QUESTIONS or is_refusal(block):
             self.answer(commit, number, fields, block)
             return
-        commit.xadd(self.log, {"id": number, **fields, "said": "\n".join(block)})
-        for place, row in enumerate(it for it in block if it.startswith("send ")):
-            _, to, text = row.split(" ", 2)
-            commit.xadd(f"ksi:to:{to}", {"line": text, "from": f"{self.name} {number} {place}"})
+        sends = [row.split(" ", 2)[1:] for row in block if row.startswith("send ")]
+        self.addressees.update(to for to, _ in sends)
+        lost = [str(place) for place, (to, _) in enumerate(sends) if to in self.full]
+        commit.xadd(self.log, {"id": number, **fields, "said": "\n".join(block), **({"lost": " ".join(lost)} if lost else {})})
+        for place, (to, text) in enumerate(sends):
+            if to not in self.full:
+                commit.xadd(f"ksi:to:{to}", {"line": text, "from": f"{self.name} {number} {place}"})
         self.settle(commit, number)
 
     def answer(self, commit, number, fields, block):

@@ -38,9 +38,10 @@ class Served(unittest.TestCase):
         return told.stdout + told.stderr
 
     def start(self, *words, folder=None):
-        self.command("start", folder or self.folder, "--door", "127.0.0.1:0", "--publish-every", "2", *words)
+        told = self.command("start", folder or self.folder, "--door", "127.0.0.1:0", "--publish-every", "2", *words)
         self.addCleanup(self.end)
         self.process = self.door()[1]
+        return told
 
     def door(self):
         with open(os.path.join(self.folder, "door"), encoding="ascii") as file:

@@ -15,7 +15,7 @@ from unittest import mock
 import stands
 from ksi_service import check, replay
 from ksi_service.proved import Stopped
-from ksi_service.record import Step, last_state, told
+from ksi_service.record import last_state
 
 REAL = not stands.missing("ksi", "ksi_retrace", stands.NODE)
 NODES = ["c0", "c1", "c2", "a0", "a1", "a2"]
@@ -143,23 +143,10 @@ class Streamed(unittest.TestCase):
             told_of = status["rounds_forgotten"]
             time.sleep(4)
 
-    def unanswered(self, record, name):
-        """How many bytes an aggregator's rounds have at most that have items and never got a response."""
-        closed, answered = {}, set()
-        for it in told(record):
-            words = (it.line or "").split(" ") if isinstance(it, Step) and it.node == name else []
-            if words[:1] == ["request"] and it.block != ["answer late"]:
-                closed[words[2]] = closed.get(words[2], 0) + 200
-            elif words[:1] == ["submission"]:
-                closed[words[2]] = closed.get(words[2], 0) + 200
-            elif words[:1] == ["response"]:
-                answered.add(words[1])
-        return sum(size for second, size in closed.items() if second not in answered)
-
     def sign(self, number):
         for _ in range(300):
             try:
-                status, content = self.ask("/sign", f"{number:064x}")
+                status, content = self.ask("/sign", f"{number + 1:064x}")
                 if status == 200:
                     return content
             except (OSError, http.client.HTTPException):

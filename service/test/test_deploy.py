@@ -57,7 +57,7 @@ class DeployTest(unittest.TestCase):
         self.assertEqual(default, "user default off")
         for line in (head, node):
             self.assertNotRegex(line, r"\+@all|allkeys|~\*|nopass")
-        for word in ("xadd", "xack", "xdel", "xreadgroup", "get", "set", "@transaction"):
+        for word in ("xadd", "xack", "xdel", "xlen", "xreadgroup", "get", "set", "@transaction"):
             self.assertIn(f"+{word}", node)
         for row in ("appendonly yes", "appendfsync always", "port 0", "tls-auth-clients yes", "maxmemory-policy noeviction"):
             self.assertIn(f"{row}\n", content_of("redis.conf"))

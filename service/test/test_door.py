@@ -128,7 +128,7 @@ class DoorTest(unittest.TestCase):
 
     def test_what_is_refused(self):
         rows = [("POST", "/sign", b"no hash", {}, 400), ("POST", "/sign", b"", {}, 400), ("POST", "/sign", b"0" * 65, {}, 400),
-                ("POST", "/sign", b"0" * 300, {}, 400), ("POST", "/sign", b"0" * 64, {"Content_Type": "image/png"}, 415),
+                ("POST", "/sign", b"0" * 300, {}, 400), ("POST", "/sign", b"0" * 64, {}, 400), ("POST", "/sign", b"0" * 64, {"Content_Type": "image/png"}, 415),
                 ("GET", "/signature/0", None, {}, 404), ("GET", "/signature/" + "0" * 64, None, {}, 404),
                 ("GET", "/../../etc/passwd", None, {}, 404), ("POST", "/elsewhere", b"x", {}, 404), ("PUT", "/sign", b"x", {}, 405),
                 ("GET", "/sign", None, {}, 405), ("POST", "/extend", b"x" * 65_540, {}, 413), ("GET", "/status", b"body", {}, 400),

@@ -93,7 +93,7 @@ class BackupTest(unittest.TestCase):
         with tempfile.TemporaryDirectory() as room:
             for name, content in (("plan", Plan(1, 5, ("c0",)).text().encode()), ("mirror.1", b"another")):
                 files.write(os.path.join(room, name), content)
-            with mock.patch.object(backup, "mirrors", lambda *_: [b"this"]), mock.patch.object(backup, "ksi", lambda *words: asked.append(os.path.basename(words[1]))):
+            with mock.patch.object(backup, "Stopped"), mock.patch.object(backup, "mirrors", lambda *_: [b"this"]), mock.patch.object(backup, "ksi", lambda *words: asked.append(os.path.basename(words[1]))):
                 backup.make(room, room, 7, say=lambda text: None)
             self.assertEqual(files.content_of(os.path.join(room, "mirror.1")), b"another")
         self.assertEqual(asked, ["mirror.0"])
@@ -210,8 +210,9 @@ class FilesTest(unittest.TestCase):
 
     def test_a_file_that_cannot_be_written_leaves_the_one_before(self):
         files.write(self.path, b"one")
-        with mock.patch("os.fsync", side_effect=OSError(28, "No space left on device")), self.assertRaises(OSError):
+        with mock.patch("os.fsync", side_effect=OSError(28, "No space left on device")), self.assertRaises(OSError) as full:
             files.write(self.path, b"two")
+        self.assertEqual((full.exception.errno, full.exception.filename), (28, self.path))
         self.assertEqual((files.content_of(self.path), os.listdir(self.room.name)), (b"one", ["file"]))
 
     def test_a_file_that_is_replaced_keeps_its_mode(self):

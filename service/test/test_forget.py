@@ -9,6 +9,7 @@ import stands
 from ksi_service import check, files, forget
 from ksi_service.node import LostFacts
 from ksi_service.record import NodeState, State, last_state
+from recorded import most_left
 from served import Served, imprint
 
 WHY = stands.missing("ksi", "ksi_retrace", stands.NODE)
@@ -80,7 +81,8 @@ class ForgetTest(Served):
             self.assertRaises(LostFacts, self.forget)
         self.assertEqual((self.sizes(), self.facts()), (before, facts))
         self.assertIn(" keeps ", self.command("forget", self.folder, "--before", "0"))
-        self.assertLess(sum(self.sizes()), sum(before) / 4)
+        most = [most_left(os.path.join(self.folder, "record"), f"a{number}") for number in range(2)]
+        self.assertTrue(all(left <= it for left, it in zip(self.sizes(), most)), (before, self.sizes(), most))
         self.assertLess(sum(self.facts()), sum(facts))
         self.assertNotIn("a0.forgetting", os.listdir(self.folder))
         self.assertEqual(check.facts_there(self.folder), last_count(self.folder))

@@ -88,6 +88,15 @@ class RecordTest(Recorded):
         self.assertEqual(seen, [])
         self.assertEqual(self.opened().state.nodes, {})
 
+    def test_a_full_disk_is_told_with_the_file(self):
+        async def work(record):
+            with open("/dev/full", "ab", buffering=0) as full, mock.patch.object(record, "file", full):
+                record.add(["ready", "c0", 0, 0])
+                with self.assertRaises(OSError) as told:
+                    await record.flush()
+            self.assertEqual((told.exception.errno, told.exception.filename), (28, "/dev/full"))
+        self.opened(work)
+
     def test_what_a_failed_sync_left_in_memory_is_not_gone_on_with(self):
         """Behind a failed sync the system calls pages written that are not on the disk: it reads them, and never writes them."""
         self.write(*SEALED)

@@ -120,6 +120,8 @@ class RestingTest(Clocked):
             await asyncio.sleep(0)
             with mock.patch.object(restings, "MOST_SECONDS", 0.1):
                 await asyncio.gather(*(resting.forget(number) for number in range(2)))
+            while not all(network.aggregator(number).alive for number in range(2)):
+                await asyncio.sleep(0.01)
             return (await asked)[0][:64], clock.again, clock.resting, sum(network.aggregator(number).starts for number in range(2))
         self.assertEqual(self.play(work), (imprint(1), 0, set(), 3))
         self.assertRegex(" ".join(said), r"^a[01] forgets nothing now: requests wait for it$")

@@ -14,11 +14,13 @@ import unittest
 from unittest import mock
 
 import stands
+from ksi_service import network as carriers
 from ksi_service import remote, streams
 from ksi_service.hours import Broken
 from ksi_service.node import LostFacts
 from ksi_service.plan import Plan
-from ksi_service.record import Signed, last_state, told
+from ksi_service.record import Signed, told
+from recorded import most_left
 from streamed import NODES, PYTHON, WHY, Streamed
 
 
@@ -50,10 +52,8 @@ class StreamsTest(Streamed):
         handed = {bytes.fromhex(it.text) for it in told(record) if isinstance(it, Signed)}
         self.assertEqual(set(signed) - handed, set())
         self.assertGreater(forgotten, 0)
-        # an item has 64 digits of its hash, of which none that was signed is left
         sizes = {name: os.path.getsize(os.path.join(self.room.name, name, f"{name}.facts")) for name in NODES if name[0] == "a"}
-        facts = last_state(record)[0]
-        self.assertEqual([name for name, size in sizes.items() if size > 20 + 30 * facts.node(name).facts + self.unanswered(record, name)], [], sizes)
+        self.assertEqual([name for name, size in sizes.items() if size > most_left(record, name)], [], sizes)
         self.assertGreater(sum(it.line is None for it in told(record) if not isinstance(it, Signed)), 3)
         self.checked(100)
 
@@ -126,6 +126,23 @@ class AwayTest(unittest.TestCase):
                 mock.patch.object(remote, "errors", lambda: ConnectionError):
             asyncio.run(go(folder))
         self.assertEqual(said, ["the server is away: gone"] * 2)
+
+
+class WaitingTest(unittest.TestCase):
+    def test_a_head_that_waits_for_nodes_says_for_which(self):
+        """It said nothing, and `start` sent people to its log."""
+        async def go(folder, said):
+            network = remote.RemoteNetwork(folder, Plan(3, 5, ("c0", "c1")), "", said.append)
+            network.nodes["c0"].alive = network.nodes["a0"].alive = True
+            try:
+                await asyncio.wait_for(network.ready(), 0.5)
+            except asyncio.TimeoutError:
+                network.nodes["c1"].alive = True
+                await network.ready()
+            await network.record.close()
+            return said
+        with tempfile.TemporaryDirectory(prefix="ksi-test-") as folder, mock.patch.object(carriers, "QUIET_START_SECONDS", 0.1):
+            self.assertEqual(asyncio.run(go(folder, [])), ["waits for a majority of the cores and an aggregator below one of them, and sees c0 a0"])
 
 
 class Other(Away):
@@ -295,11 +312,19 @@ class TransactionTest(unittest.TestCase):
 class PrepareTest(unittest.TestCase):
     def test_a_host_that_waits_for_a_plan_says_so_once(self):
         client, said = mock.Mock(), []
-        client.get.side_effect = [None, None, "a plan"]
+        client.get.side_effect = [None, None, Plan(1, 5, ("c0",)).text()]
         with tempfile.TemporaryDirectory(prefix="ksi-test-") as room, mock.patch.dict(sys.modules, redis=mock.Mock()), \
                 mock.patch.object(streams, "connect", lambda url: client):
             streams.NodeHost("", room, "c0", said.append).prepare()
         self.assertEqual(said, ["c0 waits for a head: the server has no plan yet"])
+
+    def test_a_node_that_the_plan_has_not_is_told(self):
+        client = mock.Mock()
+        client.get.return_value = Plan(3, 5, ("c0", "c1")).text()
+        for name in ("c3", "a2"):
+            with tempfile.TemporaryDirectory(prefix="ksi-test-") as room, mock.patch.dict(sys.modules, redis=mock.Mock()), \
+                    mock.patch.object(streams, "connect", lambda url: client):
+                self.assertRaisesRegex(LostFacts, f"the plan has no {name}, but --cores 3 --aggregators c0,c1", streams.NodeHost("", room, name).prepare)
 
 
 class SilentTest(unittest.TestCase):

@@ -1,6 +1,7 @@
 """The clock's turns, with stand-ins for the nodes: who publishes, which rounds are closed, and a clock that is set back."""
 import asyncio
 import os
+import time
 import unittest
 from unittest import mock
 
@@ -51,6 +52,59 @@ class TurnsTest(Clocked):
         closed = [words[1] for words in lines if words[0] == "close"]
         self.assertEqual(set(closed), {words[2] for words in lines if words[0] == "request"})
         self.assertLessEqual(len(closed), 4)
+
+    def test_a_core_that_lacks_much_leads_no_second_until_it_is_told(self):
+        """As one that was away for an hour: requests would wait for all that it is told."""
+        async def nothing(*_):
+            return True
+
+        async def work(network, clock):
+            carry, hold, lost = network.carry, clock.hold, []
+
+            async def slowly(core, second):
+                await asyncio.sleep(1)
+                await hold(core, second)
+
+            def carried(to, text, message, delay):
+                if to == "c2" and " success " in text and len(lost) < 70:
+                    lost.append(text)
+                else:
+                    carry(to, text, message, delay)
+            with mock.patch.object(network, "carry", carried), mock.patch.object(clock, "hold", slowly), mock.patch.object(clock, "publish_by_any", nothing):
+                while clock.next < time.time() - 2:
+                    await asyncio.sleep(0.05)
+                first = asyncio.create_task(clock.sign(imprint(1), clock.next | 1))
+                while not clock.behind:
+                    await asyncio.sleep(0.05)
+                told = set(clock.behind)
+                signed = await asyncio.gather(first, *[clock.sign(imprint(number), clock.next + number) for number in range(2, 6)])
+                while clock.behind:
+                    await asyncio.sleep(0.05)
+            last = await clock.sign(imprint(7), clock.next + 2 | 1)
+            return told, {clock.plan.leader(second) for _, second in signed}, clock.plan.leader(last[1])
+        now = int(time.time()) // 2 * 2
+        self.assertEqual(self.play(work, start=now - 120, aggregators="c2,c1"), ({2}, {1}, 2))
+
+    def test_there_is_no_ballot_without_a_majority(self):
+        """As where two of three machines are away for a day: each ballot is two facts, and lines that wait for who is away."""
+        async def work(network, clock):
+            words = {name: network.nodes[name].words for name in ("c1", "c2")}
+            for name in words:
+                network.nodes[name].words = ["/bin/sleep", "1000"]
+                network.nodes[name].kill()
+            while any(network.nodes[name].alive for name in words):
+                await asyncio.sleep(0.01)
+            # what was on its way comes to its end
+            await asyncio.sleep(2)
+            before = network.record.node("c0").facts
+            await asyncio.sleep(2)
+            after = network.record.node("c0").facts
+            for name in words:
+                network.nodes[name].words = words[name]
+                network.nodes[name].kill()
+            await clock.sign(imprint(1))
+            return after - before
+        self.assertEqual(self.play(work), 0)
 
 
 if __name__ == "__main__":
