@@ -1,5 +1,5 @@
 """Holds a run against the proved world: `ksi_retrace` compares each block that a node said, and each signature that was handed out,
-with what the world says at the same place. A wrong record gives other bytes; so nothing of the host is trusted for it."""
+with what the world says at the same place."""
 import os
 import random
 import tempfile

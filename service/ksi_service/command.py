@@ -320,11 +320,14 @@ def node_name(text):
     return text
 
 
+WORDS = {"folder": "the folder of the service", "file": "the file to sign or to verify", "signature": "its signature", "out": "where mirrors and journals are saved"}
+
+
 def add(commands, name, does, told, *words):
     """Adds a command with these words, of which `folder` may be left out."""
     one = commands.add_parser(name, help=told)
     for word in words:
-        one.add_argument(word, **({"nargs": "?", "default": DEFAULT} if word == "folder" else {}))
+        one.add_argument(word, help=WORDS[word], **({"nargs": "?", "default": DEFAULT} if word == "folder" else {}))
     one.set_defaults(does=does)
     return one
 
@@ -334,10 +337,10 @@ def add_running(commands, name, does, told):
     one = add(commands, name, does, told, "folder")
     one.add_argument("--cores", type=int, choices=range(1, 10), metavar="1..9", help="how many cores a new folder has: 3")
     one.add_argument("--aggregators", metavar="NUMBER|PARENTS", help="how many aggregators a new folder has, 2; or to whom each submits, as c0,c1,a0,a0")
-    one.add_argument("--door", default="127.0.0.1:8080", metavar="HOST:PORT", help="where to listen; port 0 takes a free one")
+    one.add_argument("--door", default="127.0.0.1:8080", metavar="HOST:PORT", help="where to listen: 127.0.0.1:8080; port 0 takes a free one")
     one.add_argument("--over", type=carrier, default=OVER, metavar="pipes|redis://HOST", help="how lines go: pipes on this machine, or Redis Streams to the hosts of nodes")
-    one.add_argument("--publish-every", type=positive, default=3600, metavar="SECONDS", help="how often a core publishes: 3600")
-    one.add_argument("--most-waiting", type=positive, default=service.MOST_WAITING, metavar="REQUESTS", help="how many requests may wait before the door answers 503")
+    one.add_argument("--publish-every", type=positive, default=3600, metavar="SECONDS", help="after how many seconds a core publishes again: 3600")
+    one.add_argument("--most-waiting", type=positive, default=service.MOST_WAITING, metavar="REQUESTS", help=f"how many requests may wait before the door answers 503: {service.MOST_WAITING}")
     one.add_argument("--cut-every", type=positive, default=3600, metavar="SECONDS", help="how often the record begins a new file, and the one before is compressed: 3600")
     one.add_argument("--forget-every", type=natural, default=3600, metavar="SECONDS", help="how often aggregators forget rounds whose signatures were handed out: 3600; 0 is never")
 
@@ -345,8 +348,8 @@ def add_running(commands, name, does, told):
 def add_asking(commands, name, does, told, *words, out=None):
     """Adds a command that asks a service, and saves what it gets."""
     one = add(commands, name, does, told, *words)
-    one.add_argument("-o", dest="out", default=out)
-    one.add_argument("--folder", default=DEFAULT)
+    one.add_argument("-o", dest="out", default=out, metavar="OUT", help="where to save what comes")
+    one.add_argument("--folder", default=DEFAULT, help=WORDS["folder"])
 
 
 def parser_of():
@@ -356,7 +359,7 @@ def parser_of():
     add_running(commands, "run", run, "run it until it is interrupted")
     one = add(commands, "node", node, "run one node of a service whose lines go over Redis")
     one.add_argument("name", type=node_name, metavar="c0|a0|..", help="which core or aggregator")
-    one.add_argument("folder", nargs="?", default=DEFAULT)
+    one.add_argument("folder", nargs="?", default=DEFAULT, help="the node's folder")
     one.add_argument("--over", type=carrier, default=OVER, metavar="redis://HOST", help="the server; rediss:// for TLS")
     add(commands, "stop", stop, "stop it", "folder")
     add(commands, "status", status, "its counters", "folder")
@@ -364,7 +367,7 @@ def parser_of():
     add_asking(commands, "extend", extend, "extend a signature to the last publication", "signature")
     add_asking(commands, "publications", publications, "save the publications file", out="publications")
     one = add(commands, "verify", verify, "verify a file and its signature by the proved ksi", "file", "signature")
-    one.add_argument("publications", nargs="?", default="publications")
+    one.add_argument("publications", nargs="?", default="publications", help="the publications file: publications")
     one = add(commands, "check", check, "hold the record of a stopped service against the proved world", "folder")
     one.add_argument("--samples", type=positive, default=50, metavar="NUMBER", help="how many signatures are extended, verified and audited: 50")
     one.add_argument("--by-node", action="store_true", help="hold the log of each node against that node alone, in the memory of one node")
