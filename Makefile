@@ -24,9 +24,13 @@ ARCHIVE = crates/ksi_c/out/libksi_c.a
 SONAME = libksi.so.1
 ROOT = $(DESTDIR)$(PREFIX)
 DOC = $(ROOT)/share/doc/ksi
-# what units, ksi.pc and the shell would read as something else, beside a space: such a prefix is refused
-ODD = % | \ " ' $$ `
-IS_ODD = $(strip $(foreach it,$(ODD),$(findstring $(it),$(PREFIX)))$(word 2,x$(PREFIX)x))
+# what units, ksi.pc and the shell would read as something else, beside a space: such a prefix is refused, and of a root what the
+# shell would
+ODD = % | \ " ' $$ ` \#
+ODD_ROOT = \ " $$ `
+IS_ODD = $(strip $(foreach it,$(ODD),$(findstring $(it),$(PREFIX)))$(word 2,x$(PREFIX)x)$(filter-out /%,$(firstword $(PREFIX))))
+IS_ODD_ROOT = $(strip $(foreach it,$(ODD_ROOT),$(findstring $(it),$(DESTDIR))))
+REFUSED = $(if $(IS_ODD),$(error PREFIX has a space or one of $(ODD), or does not begin with /, which units and ksi.pc cannot have))$(if $(IS_ODD_ROOT),$(error DESTDIR has one of $(ODD_ROOT), which the shell reads as something else))
 # as sed puts it in a file
 FILLED = s|@PREFIX@|$(subst &,\&,$(PREFIX))|
 UNITS = ksi-service.service ksi-head.service ksi-node@.service
@@ -64,7 +68,7 @@ check:
 	.ci/run
 
 install-service:
-	$(if $(IS_ODD),$(error PREFIX has a space or one of $(ODD), which units and ksi.pc cannot have))
+	$(REFUSED)
 	install -Dm755 $(PROGRAM) "$(ROOT)/bin/ksi"
 	install -Dm755 service/ksi-service "$(ROOT)/lib/ksi/ksi-service"
 	install -d "$(ROOT)/lib/ksi/ksi_service" "$(ROOT)/lib/systemd/system" "$(ROOT)/lib/sysusers.d"
@@ -104,6 +108,7 @@ install: install-service
 	! test -e "$(OUT)/page.html" || ln -sf ../../share/ksi/page.html "$(ROOT)/lib/ksi/page.html"
 
 uninstall:
+	$(REFUSED)
 	cd "$(ROOT)" && rm -f bin/ksi-why share/man/man1/ksi-why.1 lib/libksi.a lib/$(SONAME) lib/libksi.so include/ksi.h lib/pkgconfig/ksi.pc
 	cd "$(ROOT)" && for it in $(NAMES); do \
 	    rm -f bin/$$it share/man/man1/$$it.1 share/bash-completion/completions/$$it share/zsh/site-functions/_$$it share/fish/vendor_completions.d/$$it.fish; \

@@ -26,5 +26,5 @@ int main(int count, char **words) {
     if (answer.status == KSI_ACCEPTED) printf("accepted %llu\n", (unsigned long long)answer.second);
     else if (answer.status == KSI_REFUSED) printf("refused V%u\n", answer.code);
     else printf("malformed %u %c%u\n", answer.file, answer.file == KSI_SIGNATURE ? 'S' : 'Q', answer.code);
-    return (int)answer.status;
+    return fflush(stdout) ? 4 : (int)answer.status;
 }

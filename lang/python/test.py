@@ -23,6 +23,9 @@ right, wrong = hashlib.sha256(document).digest(), hashlib.sha256(b"abc").digest(
 for size in [*range(0, 200), 4096, 100001]:
     assert ksi.digest(b"x" * size) == hashlib.sha256(b"x" * size).digest(), size
 assert ksi.file_digest(os.path.join(samples, "deed.ksig")) == hashlib.sha256(signature).digest()
+# a descriptor stays open, as whose it is
+with open(os.path.join(samples, "deed.txt"), "rb") as file:
+    assert ksi.file_digest(file.fileno()) == right and os.fstat(file.fileno()).st_size == len(document)
 # a descriptor that has no bytes yet is no file that ends
 reads, writes = os.pipe()
 os.set_blocking(reads, False)
@@ -73,9 +76,15 @@ for other in [5, "text", None, Counted()]:
     refuses(TypeError, ksi.verify, other, right, publications)
     refuses(TypeError, ksi.verify, signature, other, publications)
     refuses(TypeError, ksi.verify, signature, right, other)
-    refuses(TypeError, lambda: list(ksi.steps(other)))
+    refuses(TypeError, ksi.steps, other)
 for other in [b"", right[:31], right + b"x", array.array("I", range(32))]:
     refuses(ValueError, ksi.verify, signature, other, publications)
+
+# the links are those of the bytes at the call, whatever becomes of them before the first is asked for
+lent = bytearray(signature)
+links = ksi.steps(lent)
+lent.clear()
+assert len(list(links)) == 32
 
 way = list(ksi.steps(signature))
 assert [step.calendar for step in way] == [False] * 8 + [True] * 24 and way[0].node == right

@@ -21,6 +21,9 @@ func main() {
 		os.Exit(2)
 	}
 	answer := ksi.Verify(read(os.Args[1]), ksi.Digest(read(os.Args[2])), read(os.Args[3]))
-	fmt.Println(answer)
+	if _, err := fmt.Println(answer); err != nil {
+		fmt.Fprintln(os.Stderr, err)
+		os.Exit(4)
+	}
 	os.Exit(int(answer.Status))
 }

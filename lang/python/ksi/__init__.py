@@ -129,10 +129,10 @@ def digest(document: Lender) -> bytes:
 
 
 def file_digest(name: typing.Union[str, bytes, "os.PathLike[str]", int]) -> bytes:
-    """SHA-256 of a file of any size, read in pieces."""
+    """SHA-256 of a file of any size, read in pieces. A descriptor stays open, and is read from where it stands."""
     state, out = _Hasher(), ctypes.create_string_buffer(32)
     _start(state)
-    with open(name, "rb") as file:
+    with open(name, "rb", closefd=not isinstance(name, int)) as file:
         while piece := file.read(1 << 20):
             _more(state, piece, len(piece))
         if piece is None:
@@ -143,7 +143,11 @@ def file_digest(name: typing.Union[str, bytes, "os.PathLike[str]", int]) -> byte
 
 def steps(signature: Lender) -> typing.Iterator[Step]:
     """The links of a signature from the document's hash up; none where the bytes are no signature."""
-    signature, it, number = _bytes_of(signature), _Step(), 0
+    return _steps(_bytes_of(signature))
+
+
+def _steps(signature: bytes) -> typing.Iterator[Step]:
+    it, number = _Step(), 0
     while _step(signature, len(signature), number, it) == 0:
         sibling = bytes(it.sibling)[: it.size]
         yield Step(bool(it.calendar), it.chain, it.place, it.side, it.level, bool(it.raw), bytes(it.node), sibling, bytes(it.join))
