@@ -286,10 +286,12 @@ class Clock:
         return words[2]
 
     async def publish_by_any(self, second, first=0):
-        """Lets a core publish a second, from the first one on the one that can. Returns whether one did."""
+        """Lets a core publish a second, from the first one on the one that can. Those that are down come last, as they are by then.
+        Returns whether one did."""
         cores = [(first + turn) % self.plan.cores for turn in range(self.plan.cores)]
-        for core in sorted(cores, key=self.behind.__contains__):
-            if await self.publish(core, second) is not None:
+        while cores:
+            cores.sort(key=lambda core: (not self.network.core(core).alive, core in self.behind))
+            if await self.publish(cores.pop(0), second) is not None:
                 return True
         self.say(f"second {second} is not published: no core that is up holds all seconds to it")
         return False
