@@ -97,6 +97,39 @@ class LateTest(unittest.TestCase):
         self.assertEqual(self.played(lambda: False), ([list, list], [True, True], ["seal 5", "seal 6", "tell 7"]))
 
 
+class BusyTest(unittest.TestCase):
+    def answered(self, lines, *words):
+        """How many lines a node answers that are given to it at once, and that the others can go on without."""
+        async def go(room):
+            record = Record(os.path.join(room, "record"))
+            node = nodes.Node("c0", [*words, sys.executable, FAKE, os.path.join(room, "facts")], record, lambda *_: None)
+            tasks = [asyncio.create_task(record.run()), asyncio.create_task(node.run())]
+            while not node.alive:
+                await asyncio.sleep(0.01)
+            said = await asyncio.gather(*map(node.ask, lines), return_exceptions=True)
+            node.end()
+            await asyncio.wait(tasks[1:], timeout=5)
+            tasks[0].cancel()
+            await record.close()
+            return sum(isinstance(it, list) for it in said)
+        with tempfile.TemporaryDirectory() as room, looked_often():
+            return asyncio.run(go(room))
+
+    def test_a_node_to_which_much_is_given_is_not_late(self):
+        """Its lines would be given to another one, which would be late in its place, and so on."""
+        with mock.patch.object(nodes, "MANY_ANSWERS", 2):
+            self.assertEqual(self.answered([f"tell {number}" for number in range(1500)], *SLOW, "0.001"), 1500)
+
+    def test_a_node_is_not_late_for_a_record_that_is_slow(self):
+        write = Record.write
+
+        def slowly(record, content):
+            time.sleep(0.2)
+            write(record, content)
+        with mock.patch.object(Record, "write", slowly):
+            self.assertEqual(self.answered([f"seal {number}" for number in range(8)]), 8)
+
+
 class StartTest(Clocked):
     def started(self, *names):
         """What a start says two of whose nodes do not get ready, and whether it begins."""
