@@ -207,7 +207,7 @@ class Clock:
         """A step of a core that wants all seconds held up to one: those that it lacks, the first ones first, are told to it before, but
         at most so many times."""
         tries, lacking, times = 0, None, 0
-        while tries < TRIES and times != most:
+        while tries < TRIES:
             try:
                 words = (await self.network.core(core).ask(text))[0].split(" ")
             except Down:
@@ -216,6 +216,8 @@ class Clock:
                 continue
             if words[1] != "undecided":
                 return words
+            if times == most:
+                break
             tries, times = tries + 1 if lacking == words[2] else 0, times + 1
             lacking = words[2]
             last = min(int(lacking) + MOST_AT_ONCE - 1, int(text.split(" ")[1]))
