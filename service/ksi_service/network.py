@@ -11,7 +11,7 @@ from .programs import program
 from .record import Record
 
 WITHOUT = "the service goes on without"
-"""What is said of a node that is left out."""
+"""What is said of a node that is left out, or not ready yet."""
 QUIET_START_SECONDS, PATIENT_SECONDS = 5, 60
 """How long a start waits for nodes before it says for which; and how long for all of them, where fewer are enough."""
 MOST_DECIDED = 4096
@@ -145,7 +145,9 @@ class Network:
         patient = time.monotonic() + PATIENT_SECONDS
         missing = lambda: [name for name, node in self.nodes.items() if not node.alive and name not in self.left_out]
         enough = lambda: not missing() or time.monotonic() > patient and self.plan.may_sign({it for it, node in self.nodes.items() if node.alive})
-        await until(enough, self, lambda: f"waits for {' '.join(missing())}, which read their files or do not start")
+        await until(enough, self, lambda: f"waits for {' '.join(missing())} to start and to read their files")
+        if missing():
+            self.say(f"{WITHOUT} {' '.join(missing())} until they are ready")
 
     async def forget(self, aggregator, before):
         """Lets an aggregator forget rounds of seconds before this one. Returns how many facts are left, and how many there were."""

@@ -155,10 +155,10 @@ class StartTest(Clocked):
             return asyncio.run(go()), said
 
     def test_a_start_says_which_nodes_it_waits_for(self):
-        self.assertEqual(self.started("c1", "c2"), (False, ["waits for c1 c2, which read their files or do not start"]))
+        self.assertEqual(self.started("c1", "c2"), (False, ["waits for c1 c2 to start and to read their files"]))
 
     def test_a_start_waits_for_all_for_a_minute(self):
-        self.assertEqual(self.started("c2", "a1"), (True, ["waits for c2 a1, which read their files or do not start"]))
+        self.assertEqual(self.started("c2", "a1"), (True, ["waits for c2 a1 to start and to read their files", "the service goes on without c2 a1 until they are ready"]))
 
 
 class LeftOutTest(Clocked):
