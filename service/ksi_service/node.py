@@ -62,10 +62,10 @@ class Line:
 
 
 class Node:
-    def __init__(self, name, words, record, on_step, say=lambda text: None, may_lack=lambda: True):
+    def __init__(self, name, words, record, on_step, say=lambda text: None, may_lack=lambda: True, on_ready=lambda name: None):
         self.name, self.words, self.record, self.on_step, self.say = name, words, record, on_step, say
-        self.may_lack = may_lack
-        """Whether the others can go on without it for a while."""
+        self.may_lack, self.on_ready = may_lack, on_ready
+        """Whether the others can go on without it for a while; and what is told once it takes lines."""
         self.waiting, self.flying, self.storing = deque(), deque(), 0
         self.runs, self.late, self.looks = False, False, 0
         self.stopping, self.starts, self.unsaid, self.refused = False, 0, 0, 0
@@ -228,6 +228,7 @@ class Node:
             line.fail(self.name)
         self.starts += 1
         self.runs, self.late = True, False
+        self.on_ready(self.name)
 
     def answered(self, block):
         line = self.flying.popleft()

@@ -197,6 +197,26 @@ class LeftOutTest(Clocked):
         self.assertEqual(set(leaders), {1})
         self.assertRegex(reasons["c0"], "^c0 is not started: .*c0.facts: Input/output error, 8 times in a row$")
 
+    def test_a_node_that_can_be_started_again_is_left_out_no_more(self):
+        """As one whose file another process held, which a host that was killed had started, on a disk that hung."""
+        async def work(network, clock):
+            said, node = [], network.nodes["c0"]
+            network.say, words, node.words = said.append, node.words, ["/bin/false"]
+            node.kill()
+            while not network.left_out:
+                await asyncio.sleep(0.01)
+            await asyncio.sleep(0.5)
+            node.words = words
+            while not node.alive:
+                await asyncio.sleep(0.01)
+            self.assertEqual(network.left_out, {})
+            signed = await asyncio.gather(*[clock.sign(imprint(number), clock.next + number) for number in range(2, 8)])
+            return {clock.plan.leader(second) for _, second in signed}, said
+        with looked_often(), mock.patch.object(carriers, "AGAIN_SECONDS", 0.1):
+            leaders, said = self.play(work)
+        self.assertEqual(leaders, {0, 1})
+        self.assertEqual(said, ["c0 ended with status 1, 8 times in a row: the service goes on without c0, and tries it again each minute", "c0 is there again"])
+
     def test_nodes_that_the_service_needs_stop_it(self):
         for number, names in enumerate((["c0", "c2"], ["a0", "a1", "a2"], ["c1", "a0"])):
             self.fails_without(number, *names)
