@@ -149,9 +149,9 @@ class Network:
     def leave_out(self, node, reason, what):
         """Goes on without a node, or raises the reason if the others are not enough. Says each reason once."""
         node.leave_alone()
-        known, self.left_out[node.name] = self.left_out.get(node.name), str(reason)
-        if not self.plan.may_sign(self.nodes.keys() - self.left_out.keys()):
+        if not self.plan.may_sign(self.nodes.keys() - self.left_out.keys() - {node.name}):
             raise reason
+        known, self.left_out[node.name] = self.left_out.get(node.name), str(reason)
         if known != str(reason):
             self.say(f"{reason}: {WITHOUT} {what}")
 

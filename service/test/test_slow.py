@@ -154,6 +154,19 @@ class StartTest(Clocked):
         with mock.patch.object(carriers, "QUIET_START_SECONDS", 2), mock.patch.object(carriers, "PATIENT_SECONDS", 2.5):
             return asyncio.run(go()), said
 
+    def test_a_start_that_lacks_a_majority_fails_before_it_is_ready(self):
+        """Else the door would be open for a moment, and `start` would say so."""
+        async def work(*_):
+            self.fail("it is ready")
+        real = Network.begin
+
+        def begin(network):
+            for name in ("c1", "c2"):
+                network.nodes[name].words = ["/bin/false"]
+            return real(network)
+        with mock.patch.object(Network, "begin", begin), mock.patch.object(nodes, "FIRST_PAUSE", 0.01), self.assertRaises(GivenUp):
+            self.play(work)
+
     def test_a_start_says_which_nodes_it_waits_for(self):
         self.assertEqual(self.started("c1", "c2"), (False, ["waits for c1 c2 to start and to read their files"]))
 
