@@ -14,6 +14,8 @@ import time
 SCRIPT = os.path.join(os.path.dirname(os.path.dirname(os.path.abspath(__file__))), "chaos")
 HOST_KILLS, FIRST_FILL = 0.06, 20
 """How many of the kills are of the host, and after how many seconds the disk is full for the first time."""
+STOPS, MOST_STOPPED = 0.1, 8
+"""How many processes are stopped in place of killed, and for how many seconds at most: a node is late by then."""
 
 
 class Run:
@@ -21,7 +23,7 @@ class Run:
         self.folder, self.notes = os.path.join(room, "data"), os.path.join(room, "notes")
         self.plan, self.rate, self.seed, self.dice = plan, rate, seed, random.Random(seed)
         self.process, self.ending, self.lock = None, False, threading.Lock()
-        self.signed, self.spans, self.counts = {}, [], collections.Counter()
+        self.signed, self.spans, self.counts, self.stopped = {}, [], collections.Counter(), {}
         self.log = open(os.path.join(room, "log"), "ab")
 
     def start(self):
@@ -89,16 +91,39 @@ class Run:
                 self.counts["requests asked again by clients"] += 1
         return status == 200
 
-    def kill_process(self):
+    def signal(self, how, what):
+        """Signals a process of a node. Returns its number, or None."""
         processes = self.status().get("processes")
-        if processes:
+        try:
+            if processes:
+                os.kill(number := self.dice.choice(list(processes.values())), how)
+                self.counts[what] += 1
+                return number
+        except ProcessLookupError:
+            pass
+        return None
+
+    def kill_process(self):
+        self.signal(signal.SIGKILL, "processes killed by SIGKILL")
+
+    def stop_process(self):
+        """Stops a process for a while, as on a disk that hangs."""
+        number = self.signal(signal.SIGSTOP, "processes stopped for some seconds")
+        if number:
+            self.stopped[number] = time.time() + self.dice.uniform(2, MOST_STOPPED)
+
+    def go_on(self, now):
+        """Lets processes go on that were stopped for long enough."""
+        for number in [it for it, until in self.stopped.items() if until <= now]:
+            del self.stopped[number]
             try:
-                os.kill(self.dice.choice(list(processes.values())), signal.SIGKILL)
-                self.counts["processes killed by SIGKILL"] += 1
+                os.kill(number, signal.SIGCONT)
             except ProcessLookupError:
                 pass
 
     def kill_host(self):
+        # who is stopped would outlive it, and hold its file
+        self.go_on(float("inf"))
         self.process.kill()
         self.process.wait()
         self.counts["hosts killed by SIGKILL"] += 1
@@ -128,6 +153,7 @@ class Run:
         end, tell, fill = time.time() + seconds, time.time() + 60, time.time() + FIRST_FILL
         while time.time() < end:
             time.sleep(self.dice.uniform(0.1, 1.5))
+            self.go_on(time.time())
             if fills and time.time() > fill:
                 self.fill()
                 fill = time.time() + self.dice.uniform(20, 90)
@@ -135,11 +161,14 @@ class Run:
                 self.start()
             elif self.dice.random() < HOST_KILLS:
                 self.kill_host()
+            elif self.dice.random() < STOPS:
+                self.stop_process()
             else:
                 self.kill_process()
             if time.time() > tell:
                 tell += 60
                 print(f"{len(self.signed)} signed, " + ", ".join(f"{count} {name}" for name, count in sorted(self.happened().items())), flush=True)
+        self.go_on(float("inf"))
         self.ending = True
         for it in clients:
             it.join(90)

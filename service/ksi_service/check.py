@@ -123,7 +123,7 @@ def use(folder, signatures, publications, last, audits):
         if audits:
             backup.make(folder, room, last, say=lambda text: None)
         calendar = Calendar(plan.start)
-        with Stopped(folder, "c0") as core:
+        with Stopped(folder, holder(folder, plan, publications.last())) as core:
             for signature in signatures:
                 if second_of(signature) > publications.last():
                     continue
@@ -136,6 +136,16 @@ def use(folder, signatures, publications, last, audits):
                     audit(room, parts, content, publications)
                     audited += 1
     return extended, audited
+
+
+def holder(folder, plan, last):
+    """The first core whose file holds all seconds up to one: others may lack some, as one that was down or late at the end. Where none
+    does, the first core."""
+    for number in range(plan.cores):
+        with Stopped(folder, f"c{number}") as core:
+            if core.ask(f"chain {last} {last}") != ["not held"]:
+                return f"c{number}"
+    return "c0"
 
 
 def audit(room, parts, content, publications):

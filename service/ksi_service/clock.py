@@ -207,7 +207,7 @@ class Clock:
         """A step of a core that wants all seconds held up to one: those that it lacks, the first ones first, are told to it before, but
         at most so many times."""
         tries, lacking, times = 0, None, 0
-        while tries < TRIES and times != most:
+        while tries < TRIES:
             try:
                 words = (await self.network.core(core).ask(text))[0].split(" ")
             except Down:
@@ -216,6 +216,8 @@ class Clock:
                 continue
             if words[1] != "undecided":
                 return words
+            if times == most:
+                break
             tries, times = tries + 1 if lacking == words[2] else 0, times + 1
             lacking = words[2]
             last = min(int(lacking) + MOST_AT_ONCE - 1, int(text.split(" ")[1]))
@@ -286,10 +288,12 @@ class Clock:
         return words[2]
 
     async def publish_by_any(self, second, first=0):
-        """Lets a core publish a second, from the first one on the one that can. Returns whether one did."""
+        """Lets a core publish a second, from the first one on the one that can. Those that are down come last, as they are by then.
+        Returns whether one did."""
         cores = [(first + turn) % self.plan.cores for turn in range(self.plan.cores)]
-        for core in sorted(cores, key=self.behind.__contains__):
-            if await self.publish(core, second) is not None:
+        while cores:
+            cores.sort(key=lambda core: (not self.network.core(core).alive, core in self.behind))
+            if await self.publish(cores.pop(0), second) is not None:
                 return True
         self.say(f"second {second} is not published: no core that is up holds all seconds to it")
         return False

@@ -6,7 +6,7 @@ TELLS = {
     "up_seconds": ("gauge", "Seconds since the service was started."),
     "nodes": ("gauge", "Nodes of the plan."),
     "nodes_up": ("gauge", "Nodes whose process runs, and is not late with an answer."),
-    "nodes_left_out": ("gauge", "Nodes that cannot be used, and are left out until the service is started again."),
+    "nodes_left_out": ("gauge", "Nodes that cannot be used, and are left out."),
     "node_restarts": ("counter", "Starts of a node after its first."),
     "lines_refused": ("counter", "Lines that a node refused."),
     "signed": ("counter", "Requests that were signed."),

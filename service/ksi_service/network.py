@@ -1,19 +1,22 @@
 """All nodes of a plan on one machine, and the messages between them. Nodes bear loss, repeats and any order of messages."""
 import asyncio
 import collections
+import contextlib
 import os
 import random
 import time
 
 from .forget import forget_between
-from .node import GivenUp, Line, LostFacts, Node
+from .node import MOST_VAIN_STARTS, GivenUp, Line, LostFacts, Node
 from .programs import program
 from .record import Record
 
 WITHOUT = "the service goes on without"
-"""What is said of a node that is left out."""
+"""What is said of a node that is left out, or not ready yet."""
 QUIET_START_SECONDS, PATIENT_SECONDS = 5, 60
 """How long a start waits for nodes before it says for which; and how long for all of them, where fewer are enough."""
+AGAIN_SECONDS = 60
+"""After how many seconds a node that does not start, and is left out, is tried again."""
 MOST_DECIDED = 4096
 """How many seconds back the host remembers what was decided; the cores remember all."""
 
@@ -64,13 +67,13 @@ class Network:
         self.record = Record(os.path.join(folder, "record"), plan.text())
         words = [program("ksi_serve"), os.path.join(folder, "plan")]
         self.nodes = {
-            name: Node(name, [*words, name, folder, f"{name}.facts"], self.record, self.route, say, lambda name=name: self.may_lack(name))
+            name: Node(name, [*words, name, folder, f"{name}.facts"], self.record, self.route, say, lambda name=name: self.may_lack(name), self.let_in)
             for name in plan.names()}
         self.flights, self.calm = collections.Counter(), {}
         self.decided, self.seconds_decided = collections.OrderedDict(), 0
         self.tasks, self.ending = [], None
         self.left_out = {}
-        """Nodes that are used no more, each with the reason."""
+        """Nodes that are not used, each with the reason."""
 
     def core(self, number):
         return self.nodes[f"c{number}"]
@@ -128,24 +131,49 @@ class Network:
         return self.tasks
 
     async def keep(self, node):
-        """Runs a node. One that cannot be used is left out until the service is started again, if the others are enough. It is given
-        nothing more: a core whose file lacks facts would vote twice."""
-        try:
-            await node.run()
-        except (GivenUp, LostFacts) as reason:
-            node.leave_alone()
-            self.left_out[node.name] = str(reason)
-            if not self.plan.may_sign(self.nodes.keys() - self.left_out.keys()):
-                raise
-            self.say(f"{reason}: {WITHOUT} {node.name} until it is started again")
-            await self.ending.wait()
+        """Runs a node. One that cannot be used is left out, if the others are enough. It is tried again after a while if it just ended.
+        If its file is not the record's it is given nothing more: a core whose file lacks facts would vote twice."""
+        while True:
+            try:
+                return await node.run()
+            except GivenUp as reason:
+                self.leave_out(node, reason, f"{node.name}, and tries it again each minute")
+                seconds = AGAIN_SECONDS
+            except LostFacts as reason:
+                self.leave_out(node, reason, f"{node.name} until it is started again")
+                seconds = None
+            if await self.ends_within(seconds):
+                return
+            node.vain_starts = MOST_VAIN_STARTS - 1
+
+    def leave_out(self, node, reason, what):
+        """Goes on without a node, or raises the reason if the others are not enough. Says each reason once."""
+        node.leave_alone()
+        if not self.plan.may_sign(self.nodes.keys() - self.left_out.keys() - {node.name}):
+            raise reason
+        known, self.left_out[node.name] = self.left_out.get(node.name), str(reason)
+        if known != str(reason):
+            self.say(f"{reason}: {WITHOUT} {what}")
+
+    def let_in(self, name):
+        """A node is ready: if it was left out, it is so no more."""
+        if self.left_out.pop(name, None):
+            self.say(f"{name} is there again")
+
+    async def ends_within(self, seconds):
+        """Waits until the network is told to end, or for so long. Returns whether it is."""
+        with contextlib.suppress(asyncio.TimeoutError):
+            await asyncio.wait_for(self.ending.wait(), seconds)
+        return self.ending.is_set()
 
     async def ready(self):
         """Waits until all nodes are up, but for those that are left out; or for so long, and until those that are up are enough."""
         patient = time.monotonic() + PATIENT_SECONDS
         missing = lambda: [name for name, node in self.nodes.items() if not node.alive and name not in self.left_out]
         enough = lambda: not missing() or time.monotonic() > patient and self.plan.may_sign({it for it, node in self.nodes.items() if node.alive})
-        await until(enough, self, lambda: f"waits for {' '.join(missing())}, which read their files or do not start")
+        await until(enough, self, lambda: f"waits for {' '.join(missing())} to start and to read their files")
+        if missing():
+            self.say(f"{WITHOUT} {' '.join(missing())} until they are ready")
 
     async def forget(self, aggregator, before):
         """Lets an aggregator forget rounds of seconds before this one. Returns how many facts are left, and how many there were."""

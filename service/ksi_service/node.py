@@ -17,8 +17,10 @@ FIRST_PAUSE = 0.05
 SILENT_SECONDS = 30
 """How long a node may be silent about a line that it was given. Then it is killed: what waits for it would wait for ever."""
 LOOK_SECONDS, LATE_LOOKS = 0.5, 6
-"""How often is looked for a line that a node did not answer, and how many looks make the node late. It is left alone then until it has
+"""How often is looked for a line that a node did not answer, and how many such looks make the node late. It is left alone then until it has
 answered all that it was given: what waited for it goes on with others, and messages to it are lost, as those to a node that is down."""
+MANY_ANSWERS = 64
+"""How many answers between two looks show that a node is not late, but has much to do. Others would be late in its place."""
 MOST_LINES = 1024
 """How many lines are on their way to a node at once; the others wait. Each waits for two writes of the record."""
 
@@ -42,7 +44,7 @@ class Line:
         self.text, self.message = text, message
         self.answer = asyncio.get_running_loop().create_future()
         self.sent = 0
-        """How often its node had been looked at before."""
+        """How often its node had been seen to be slow before."""
         self.step = None
         """Which step of the record it was."""
         self.is_question = word(text) in QUESTIONS
@@ -60,10 +62,10 @@ class Line:
 
 
 class Node:
-    def __init__(self, name, words, record, on_step, say=lambda text: None, may_lack=lambda: True):
+    def __init__(self, name, words, record, on_step, say=lambda text: None, may_lack=lambda: True, on_ready=lambda name: None):
         self.name, self.words, self.record, self.on_step, self.say = name, words, record, on_step, say
-        self.may_lack = may_lack
-        """Whether the others can go on without it for a while."""
+        self.may_lack, self.on_ready = may_lack, on_ready
+        """Whether the others can go on without it for a while; and what is told once it takes lines."""
         self.waiting, self.flying, self.storing = deque(), deque(), 0
         self.runs, self.late, self.looks = False, False, 0
         self.stopping, self.starts, self.unsaid, self.refused = False, 0, 0, 0
@@ -166,8 +168,7 @@ class Node:
         while True:
             await asyncio.sleep(LOOK_SECONDS)
             silent = silent + 1 if self.owed and heard == self.heard else 0
-            # while the record's disk does not return, no line is given and no answer is on the record: that is not the node's delay
-            self.looks += written != self.record.groups or not self.record.writes
+            self.looks += self.is_slow(heard, written)
             heard, written = self.heard, self.record.groups
             if self.runs and not self.late and self.is_late() and self.may_lack():
                 self.leave_alone()
@@ -175,6 +176,12 @@ class Node:
                 self.say(f"{self.name} is silent, and is killed")
                 self.kill()
                 silent = 0
+
+    def is_slow(self, heard, written):
+        """Whether it is the node that lines wait for, by what was heard and written at the last look. What waits for the record's disk
+        is not owed; and one that does not return may be the node's too, and that of all others."""
+        moves = written != self.record.groups or not self.record.writes
+        return self.owed > 0 and self.heard - heard < MANY_ANSWERS and moves
 
     def is_late(self):
         """Whether its oldest line is not answered for long."""
@@ -221,6 +228,7 @@ class Node:
             line.fail(self.name)
         self.starts += 1
         self.runs, self.late = True, False
+        self.on_ready(self.name)
 
     def answered(self, block):
         line = self.flying.popleft()

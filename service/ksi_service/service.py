@@ -31,7 +31,9 @@ MOST_REMEMBERED = 100_000
 ANSWER_SECONDS = 60
 """How long a request waits for its signature before it is refused."""
 LAST_SECONDS = 5
-"""How long a service that is told to stop still waits for requests that it has taken, and then for its last publication."""
+"""How long a service that is told to stop still waits for requests that it has taken."""
+LAST_PUBLICATION_SECONDS = 10
+"""And then for its last publication: so long that a core may hang, and another one publishes in its place."""
 OTHER_FILES = MOST_ACCEPTED + 1024
 """How many files may be open beside the connections that are served, and beside those of nodes."""
 FILES_OF_NODE = 3
@@ -225,9 +227,9 @@ class Service:
         second = max(self.clock.last_signed, int(time.time()) - 2)
         try:
             if second >= self.plan.start:
-                await in_time(self.clock.publish_by_any(second), LAST_SECONDS)
+                await in_time(self.clock.publish_by_any(second), LAST_PUBLICATION_SECONDS)
         except TooLate:
-            say("the last seconds are not published: no core holds all of them")
+            say(f"the last seconds are not published: no core did so within {LAST_PUBLICATION_SECONDS} seconds")
 
     async def stop(self):
         for task in self.own:

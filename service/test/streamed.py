@@ -107,7 +107,7 @@ class Streamed(unittest.TestCase):
     def stop(self):
         """Stops the head, and then the nodes. Returns the folder of the record."""
         self.running["head"].send_signal(signal.SIGTERM)
-        self.running["head"].wait(20)
+        self.running["head"].wait(30)
         for name in NODES:
             self.kill(name)
         return os.path.join(self.room.name, "head", "record")

@@ -54,9 +54,12 @@ class HoursTest(Recorded):
 
     def test_what_takes_too_long_to_compress_is_left_whole(self):
         async def work(record):
+            def until_it_closes():
+                while not record.closing:
+                    time.sleep(0.01)
             record.add(["given", "c0", "x" * (3 << 20), None])
             record.add(["said", "c0", ["answer done"]])
-            record.packer.submit(time.sleep, 0.3)
+            record.packer.submit(until_it_closes)
             await record.cut()
         with mock.patch.object(records, "LAST_SECONDS", 0.1):
             self.opened(work)

@@ -97,6 +97,39 @@ class LateTest(unittest.TestCase):
         self.assertEqual(self.played(lambda: False), ([list, list], [True, True], ["seal 5", "seal 6", "tell 7"]))
 
 
+class BusyTest(unittest.TestCase):
+    def answered(self, lines, *words):
+        """How many lines a node answers that are given to it at once, and that the others can go on without."""
+        async def go(room):
+            record = Record(os.path.join(room, "record"))
+            node = nodes.Node("c0", [*words, sys.executable, FAKE, os.path.join(room, "facts")], record, lambda *_: None)
+            tasks = [asyncio.create_task(record.run()), asyncio.create_task(node.run())]
+            while not node.alive:
+                await asyncio.sleep(0.01)
+            said = await asyncio.gather(*map(node.ask, lines), return_exceptions=True)
+            node.end()
+            await asyncio.wait(tasks[1:], timeout=5)
+            tasks[0].cancel()
+            await record.close()
+            return sum(isinstance(it, list) for it in said)
+        with tempfile.TemporaryDirectory() as room, looked_often():
+            return asyncio.run(go(room))
+
+    def test_a_node_to_which_much_is_given_is_not_late(self):
+        """Its lines would be given to another one, which would be late in its place, and so on."""
+        with mock.patch.object(nodes, "MANY_ANSWERS", 2):
+            self.assertEqual(self.answered([f"tell {number}" for number in range(1500)], *SLOW, "0.001"), 1500)
+
+    def test_a_node_is_not_late_for_a_record_that_is_slow(self):
+        write = Record.write
+
+        def slowly(record, content):
+            time.sleep(0.2)
+            write(record, content)
+        with mock.patch.object(Record, "write", slowly):
+            self.assertEqual(self.answered([f"seal {number}" for number in range(8)]), 8)
+
+
 class StartTest(Clocked):
     def started(self, *names):
         """What a start says two of whose nodes do not get ready, and whether it begins."""
@@ -121,11 +154,24 @@ class StartTest(Clocked):
         with mock.patch.object(carriers, "QUIET_START_SECONDS", 2), mock.patch.object(carriers, "PATIENT_SECONDS", 2.5):
             return asyncio.run(go()), said
 
+    def test_a_start_that_lacks_a_majority_fails_before_it_is_ready(self):
+        """Else the door would be open for a moment, and `start` would say so."""
+        async def work(*_):
+            self.fail("it is ready")
+        real = Network.begin
+
+        def begin(network):
+            for name in ("c1", "c2"):
+                network.nodes[name].words = ["/bin/false"]
+            return real(network)
+        with mock.patch.object(Network, "begin", begin), mock.patch.object(nodes, "FIRST_PAUSE", 0.01), self.assertRaises(GivenUp):
+            self.play(work)
+
     def test_a_start_says_which_nodes_it_waits_for(self):
-        self.assertEqual(self.started("c1", "c2"), (False, ["waits for c1 c2, which read their files or do not start"]))
+        self.assertEqual(self.started("c1", "c2"), (False, ["waits for c1 c2 to start and to read their files"]))
 
     def test_a_start_waits_for_all_for_a_minute(self):
-        self.assertEqual(self.started("c2", "a1"), (True, ["waits for c2 a1, which read their files or do not start"]))
+        self.assertEqual(self.started("c2", "a1"), (True, ["waits for c2 a1 to start and to read their files", "the service goes on without c2 a1 until they are ready"]))
 
 
 class LeftOutTest(Clocked):
@@ -163,6 +209,26 @@ class LeftOutTest(Clocked):
             leaders, reasons = self.left_out("c0")
         self.assertEqual(set(leaders), {1})
         self.assertRegex(reasons["c0"], "^c0 is not started: .*c0.facts: Input/output error, 8 times in a row$")
+
+    def test_a_node_that_can_be_started_again_is_left_out_no_more(self):
+        """As one whose file another process held, which a host that was killed had started, on a disk that hung."""
+        async def work(network, clock):
+            said, node = [], network.nodes["c0"]
+            network.say, words, node.words = said.append, node.words, ["/bin/false"]
+            node.kill()
+            while not network.left_out:
+                await asyncio.sleep(0.01)
+            await asyncio.sleep(0.5)
+            node.words = words
+            while not node.alive:
+                await asyncio.sleep(0.01)
+            self.assertEqual(network.left_out, {})
+            signed = await asyncio.gather(*[clock.sign(imprint(number), clock.next + number) for number in range(2, 8)])
+            return {clock.plan.leader(second) for _, second in signed}, said
+        with looked_often(), mock.patch.object(carriers, "AGAIN_SECONDS", 0.1):
+            leaders, said = self.play(work)
+        self.assertEqual(leaders, {0, 1})
+        self.assertEqual(said, ["c0 ended with status 1, 8 times in a row: the service goes on without c0, and tries it again each minute", "c0 is there again"])
 
     def test_nodes_that_the_service_needs_stop_it(self):
         for number, names in enumerate((["c0", "c2"], ["a0", "a1", "a2"], ["c1", "a0"])):

@@ -3,11 +3,39 @@ import asyncio
 import os
 import time
 import unittest
+from types import SimpleNamespace
 from unittest import mock
 
 from clocked import Clocked, imprint
 from ksi_service import clock as clocks
+from ksi_service.clock import Clock
+from ksi_service.plan import Plan
 from ksi_service.record import Step, told
+
+
+class HeldTest(unittest.TestCase):
+    def held(self, *answers):
+        """What a core comes to say that answers so, and what it was told meanwhile."""
+        answers, told = list(answers), []
+
+        async def ask(_):
+            return [answers.pop(0)]
+
+        async def hold(_, second):
+            told.append(second)
+
+        async def go():
+            clock = Clock(SimpleNamespace(plan=Plan(3, 5, ("c0",)), core=lambda _: SimpleNamespace(ask=ask)))
+            clock.hold = hold
+            return await clock.held(0, "respond 60", clocks.MOST_TOLD)
+        return asyncio.run(go()), told
+
+    def test_a_core_that_lacks_a_little_is_asked_again_once_it_is_told(self):
+        said, told = self.held("answer undecided 30", "answer undecided 46", "answer done")
+        self.assertEqual((said, told), (["answer", "done"], list(range(30, 61))))
+
+    def test_a_core_that_lacks_more_is_told_the_rest_later(self):
+        self.assertEqual(self.held("answer undecided 10", "answer undecided 26", "answer undecided 42"), (None, list(range(10, 42))))
 
 
 class TurnsTest(Clocked):
