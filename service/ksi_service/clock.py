@@ -23,8 +23,6 @@ MOST_WAITING = 10_000
 """How many requests may wait for their signatures at once."""
 MOST_AT_ONCE = 16
 """How many seconds are driven at once: after a standstill the missed ones are decided in groups of so many."""
-
-
 MOST_TOLD = 2
 """How many times a core is told what it lacks, so many seconds at once, before it responds. One that lacks more leads none meanwhile."""
 
@@ -186,7 +184,7 @@ class Clock:
 
     def is_majority(self):
         """Whether a majority of the cores is up."""
-        return 2 * sum(self.network.core(it).alive for it in range(self.plan.cores)) > self.plan.cores
+        return self.plan.is_majority(sum(self.network.core(it).alive for it in range(self.plan.cores)))
 
     async def hold(self, core, second):
         """Sees to it that a core holds a second, by another core that tells it, or by a ballot."""

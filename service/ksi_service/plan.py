@@ -99,10 +99,14 @@ class Plan:
         """The nodes: `c0`, `c1` .. and `a0`, `a1` .."""
         return [f"c{number}" for number in range(self.cores)] + [f"a{number}" for number in range(len(self.parents))]
 
+    def is_majority(self, count) -> bool:
+        """Whether so many cores are a majority."""
+        return 2 * count > self.cores
+
     def may_sign(self, up) -> bool:
         """Whether these nodes are enough: a majority of the cores, and an aggregator with all that stand between it and one of them."""
         cores = [it for it in range(self.cores) if f"c{it}" in up]
-        return 2 * len(cores) > self.cores and any(all(f"a{above}" in up for above in self.ways[it]) for core in cores for it in self.below[core])
+        return self.is_majority(len(cores)) and any(all(f"a{above}" in up for above in self.ways[it]) for core in cores for it in self.below[core])
 
     def core_above(self, aggregator) -> int:
         return int(self.parents[self.ways[aggregator][-1]][1:])
