@@ -1,8 +1,8 @@
 //! The program: one command over the files and the output of the system.
 //!
-//! `ksi COMMAND WORD ..` runs one of twenty commands, prints at most one line and ends with the run's status: `replay`,
+//! `ksi COMMAND WORD ..` runs one of twenty commands, prints at most one line and exits with the run's status: `replay`,
 //! `sign`, `publish`, `extend`, `verify`, `audit`, `make`, `drill`, `migrate`, `front`, `compare`, `node`, `inspect`,
-//! `block`, `line`, `checkline`, `locate`, `mirror`, `merge` and `whole`. docs/FORMATS.md tells their words and lines.
+//! `block`, `line`, `checkline`, `locate`, `mirror`, `merge` and `whole`. docs/FORMATS.md lists their words and lines.
 #![tactic(auto)]
 
 use ksi_ports::{HostFiles, HostSink};

@@ -43,7 +43,7 @@ IsIssued image rounds number bytes = (second : ℕ) × (k : ℕ) × IsIssuedAt i
 abbrev pub NotIssuedAt : RoundState → (number k : ℕ) → Type 0
 NotIssuedAt round number k = (entries : List Entry) (above : Above) (item : Item) → IsAnswered round entries above → slice_get entries k ≡ Some (from_request number item) → ⊥
 
--- no item of the request stands in a closed round that has a response
+-- no closed round that has a response has an item of the request
 abbrev pub NotIssued : (ℕ → RoundState) → ℕ → Type 0
 NotIssued rounds number = (second k : ℕ) → NotIssuedAt (rounds second) number k
 
@@ -54,6 +54,6 @@ abbrev pub AreFound : (ℕ → RoundState) → (ℕ → Option Place) → Type 0
 AreFound rounds found = (t k number : ℕ) (item : Item) → slice_get (items_in (rounds t)) k ≡ Some (from_request number item)
     → found number ≡ Some (record { second = t; place = k })
 
--- what is found stands in a second before 2^63
+-- a result is in a second before 2^63
 abbrev pub AreEarly : (ℕ → Option Place) → Type 0
 AreEarly found = (number : ℕ) (place : Place) → found number ≡ Some place → place.second < 2 ^ 63

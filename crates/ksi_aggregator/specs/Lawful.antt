@@ -42,17 +42,17 @@ abbrev pub IsFit : (front : List Entry) → Origin → Item → Type 0
 IsFit front (origins.Request number) item = item.level ≡ 0
 IsFit front (origins.Aggregator from) item = (leaf_level item ≤ highest_item) × (has_from from front ≡ false)
 
--- an open round with these items takes the entry behind them
+-- an open round with these items takes the entry after them
 pub record IsAdded (front : List Entry) (entry : Entry) : Type 0 where
   pub room : is_full front ≡ false
   pub fit : IsFit front entry.origin entry.item
 
--- it takes each of these behind those before it
+-- it takes each of these after those before it
 abbrev pub AreAdded : (front : List Entry) → List Entry → Type 0
 AreAdded front [] = Unit {0}
 AreAdded front (entry ∷ entries) = IsAdded front entry × AreAdded (front ++ entry ∷ []) entries
 
--- no number of a request stands at two places of the rounds
+-- no number of a request is at two places of the rounds
 abbrev pub AreApart : (items : ℕ → List Entry) → Type 0
 AreApart items = (number t j u k : ℕ) (x y : Item) → slice_get (items t) j ≡ Some (from_request number x) → slice_get (items u) k ≡ Some (from_request number y) → (t ≡ u) × (j ≡ k)
 
@@ -62,8 +62,8 @@ AreApart items = (number t j u k : ℕ) (x y : Item) → slice_get (items t) j �
 abbrev pub closed_items : StableRound → List Entry
 closed_items s = unwrap_or s.closed []
 
--- a round may be closed with these items: it is not closed yet, a round takes them one behind the other, and with them no
--- number of a request stands at two places of the closed rounds
+-- a round may be closed with these items: it is not closed yet, a round takes them one after the other, and with them no
+-- number of a request is at two places of the closed rounds
 pub record MayClose (stored : ℕ → StableRound) (second : ℕ) (entries : List Entry) : Type 0 where
   pub open_yet : (stored second).closed ≡ None
   pub added : AreAdded [] entries

@@ -31,7 +31,7 @@ module _ (image : List ℕ → List ℕ) where
   abbrev pub chain_at : List Item → ℕ → AboveChain
   chain_at items k = record { input = (item_at items k).imprint; links = chain_of image items k }
 
-  -- what the sender of item k is told, where this stands above the round
+  -- the path above item k, for its sender, if this is the path above the round
   abbrev pub below : Above → List Item → ℕ → Above
   below above items k = record { root = above.root; chains = chain_at items k ∷ above.chains; calendar = above.calendar }
 

@@ -16,7 +16,7 @@ pub record IsOfFacts (me : ℕ) (facts : List Fact) (a : AggregatorState) : Type
   pub mine : a.me ≡ me
   pub rounds : (t : ℕ) → rounds_of a t ≡ restored (stored_by facts t)
 
--- what steps leave of each round: it took its open items one behind the other, it has none once it is closed, and no
+-- true of each round after every step: it took its open items one after the other, it has none once it is closed, and no
 -- response is kept before
 pub record IsWell (r : RoundState) : Type 0 where
   pub added : AreAdded [] r.open_items

@@ -25,7 +25,7 @@ items_in r = unwrap_or r.closed r.open_items
 abbrev pub StandsAt : ℕ → List Entry → ℕ → Type 0
 StandsAt number entries k = (item : Item) × (slice_get entries k ≡ Some (record { origin = origins.Request number; item = item }))
 
--- no item of the request stands in a round
+-- no item of the request is in a round
 abbrev pub IsNew : ℕ → (ℕ → RoundState) → Type 0
 IsNew number rounds = (t k : ℕ) (item : Item) → slice_get (items_in (rounds t)) k ≡ Some (record { origin = origins.Request number; item = item }) → ⊥
 

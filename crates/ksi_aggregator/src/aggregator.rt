@@ -57,7 +57,7 @@ impl<C: Compress> Aggregator<C> {
         self.me
     }
 
-    /// Whether the number is new to its rounds: no item of the request stands in one, open or closed.
+    /// Whether the number is new to its rounds: no round, open or closed, has an item of the request.
     pub fn is_new(&self, number: u64) -> bool
         ensures { IsTrue result ↔ IsNew number (rounds_of self.now) }
     {
@@ -84,8 +84,8 @@ impl<C: Compress> Aggregator<C> {
         self.rounds.open_items(second)
     }
 
-    /// Whether an item of a lower aggregator stands in the round of a second. A response to it then has at most 7 chains.
-    /// It looks at each item until it finds one.
+    /// Whether the round of a second has an item of a lower aggregator. A response to it then has at most 7 chains. It
+    /// looks at each item until it finds one.
     pub fn has_lower(&self, second: u64) -> bool
         ensures { result ≡ has_lower (items_in (rounds_of self.now second)) }
     {
@@ -152,12 +152,12 @@ impl<C: Compress> Aggregator<C> {
         self.rounds.close(second)
     }
 
-    /// Takes the response to its round of a second before 2^63, and sends on what stands above the items of lower
-    /// aggregators. It has at most 7 chains where there are such items. The answer is `Done`, or `Nothing` where the round
-    /// is not closed, has no items or has a response already.
+    /// Takes the response to its round of a second before 2^63, and sends the path to the root to the lower aggregators
+    /// whose items are there. If there are such items, the response has at most 7 chains. The answer is `Done`, or
+    /// `Nothing` if the round is not closed, has no items or has a response already.
     ///
     /// # Errors
-    /// `NoMemory`: all is as it was.
+    /// `NoMemory`: nothing has changed.
     pub fn response(&mut self, second: u64, above: &Above) -> Result<Step, NoMemory>
         requires early { second < 2 ^ 63 }
         requires chains { HasPlace (rounds_of self.old second) above.now }
@@ -178,11 +178,11 @@ impl<C: Compress> Aggregator<C> {
         self.rounds.restart();
     }
 
-    /// The signature of the request of this number, none exactly where no item of it stands in a closed round that has
-    /// a response. It has at most 10,000 bytes.
+    /// The signature of the request of this number, or none exactly if no closed round that has a response has an item of
+    /// it. It has at most 10,000 bytes.
     ///
     /// # Errors
-    /// `NoMemory`: all is as it was.
+    /// `NoMemory`: nothing has changed.
     pub fn issued(&self, number: u64) -> Result<Option<Bytes>, NoMemory>
         ensures some { IfOk result (λ found. IfSome found (IsIssued C.image (rounds_of self.now) number)) }
         ensures short { IfOk result (λ found. IfSome found (λ bytes. length bytes ≤ 10000)) }

@@ -6,7 +6,7 @@ use ksi_imprint::{Bytes, NoMemory};
 use ksi_signature::{Above, AboveChain, AboveChains, AboveLinks, CalendarLinks};
 use std::alloc::Global;
 
-/// Two copies of what stands above a round.
+/// Two copies of the path above a round.
 pub(crate) fn copies_of(alloc: Global, above: &Above) -> Result<(Above, Above), NoMemory>
     ensures { IfOk result (λ copies. copies ≡ (above.now, above.now)) }
 {
@@ -14,7 +14,7 @@ pub(crate) fn copies_of(alloc: Global, above: &Above) -> Result<(Above, Above), 
     Ok((one, copy_above(alloc, above)?))
 }
 
-/// A copy of what stands above a round.
+/// A copy of the path above a round.
 fn copy_above(alloc: Global, above: &Above) -> Result<Above, NoMemory>
     ensures { IfOk result (λ copy. copy ≡ above.now) }
 {
@@ -27,7 +27,7 @@ fn copy_above(alloc: Global, above: &Above) -> Result<Above, NoMemory>
     })
 }
 
-/// What stands above a round, with the chain of an item of that round below it.
+/// The path above a round, with the chain of an item of that round below it.
 pub(crate) fn copy_with(alloc: Global, own: AboveChain, above: &Above) -> Result<Above, NoMemory>
     requires { length above.now.chains ≤ 7 }
     ensures { IfOk result (λ copy. copy ≡

@@ -1,14 +1,14 @@
-//! An aggregator, as a state machine: it gathers requests and the items of lower aggregators, closes a round of them each
-//! second, submits the item of the round's tree to its parent, sends each response on with the chain of the lower
-//! aggregator's item, and issues the signatures of its requests.
+//! An aggregator, as a state machine. For each second it collects requests and the items of lower aggregators in a round.
+//! When it closes the round, it submits the item of the round's tree to its parent. It forwards each response with the
+//! chain of the lower aggregator's item, and issues the signatures of its requests.
 //!
-//! A [`Step`] has a call's [`Answer`](ksi_signature::Answer), the [`Fact`] that is to be stored, if any, and what is to be
-//! sent. The layer above may rely on this: each call is its row of the step table of docs/PROTOCOL.md, for the second that
-//! it is given, and no other second changes; after a refusal for want of memory all is as it was; open rounds are lost at a
-//! restart, closed rounds and their first response stay; and what is issued is the signature of the request's item.
+//! A [`Step`] has a call's [`Answer`](ksi_signature::Answer), the [`Fact`] to store, if any, and the messages to send. The
+//! layers above may rely on this. Each call is its row of the step table of docs/PROTOCOL.md for the second that it is
+//! given, and no other second changes. After `NoMemory` nothing has changed. A restart loses the open rounds and keeps the
+//! closed ones with their first response. The issued signature is that of the request's item.
 //!
-//! What holds of facts in their order is in [`laws`]: an aggregator that stores the facts of its steps stores lawful ones for
-//! good, and one that comes back with them is that aggregator after a restart.
+//! [`laws`] has the laws on lists of facts: the facts that an aggregator's steps store are always valid, and an aggregator
+//! rebuilt from them is the aggregator after a restart.
 //!
 //! ```text
 //! let mut aggregator = Aggregator::<Sha>::new(alloc, 0);

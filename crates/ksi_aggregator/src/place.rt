@@ -1,4 +1,4 @@
-/// Where the item of a request stands.
+/// The place of a request's item.
 #[derive(Clone, Copy)]
 pub(crate) struct Place {
     pub second: u64,

@@ -201,7 +201,7 @@ impl<C: Compress> Round<C> {
         })
     }
 
-    /// The signature of the request whose item stands at a place, where the round is closed and has a response; none
+    /// The signature of the request whose item is at a place, where the round is closed and has a response; none
     /// where no item of it stands there, or no response.
     pub(crate) fn issued(
         &self,
@@ -225,7 +225,7 @@ impl<C: Compress> Round<C> {
     }
 }
 
-/// The signature of the request whose item stands at a place among these, by their response.
+/// The signature of the request whose item is at a place among these, by their response.
 fn issued_by<C: Compress>(
     alloc: Global,
     entries: &Entries<C>,

@@ -70,7 +70,7 @@ impl<C: Compress> Rounds<C> {
         }
     }
 
-    /// Whether an item of a lower aggregator stands in the round of a second.
+    /// Whether an item of a lower aggregator is in the round of a second.
     pub(crate) fn has_lower(&self, second: u64) -> bool
         ensures { result ≡ has_lower (items_in (round_at self.now second)) }
     {

@@ -10,7 +10,7 @@ use std::alloc::Global;
 pub enum Send {
     /// The item that the tree of its round is submitted as, to its parent.
     Submission(Item),
-    /// What stands above an item, to the aggregator of this number, which submitted it.
+    /// The path above an item, to the aggregator of this number, which submitted it.
     Response(u32, Above),
 }
 

@@ -65,15 +65,15 @@ module _ (start : ℕ) (link : PlainLink) (links : List PlainLink) (place high :
     },
   )
 
--- ---- items
+-- ---- nodes
 
-same_item : (a b : Node) → a.imprint ≡ b.imprint → a.level ≡ b.level → a ≡ b
-same_item a b imprint level = λ i. record { imprint = imprint i; level = level i }
+same_node : (a b : Node) → a.imprint ≡ b.imprint → a.level ≡ b.level → a ≡ b
+same_node a b imprint level = λ i. record { imprint = imprint i; level = level i }
 
 module _ (image : List ℕ → List ℕ) where
-  -- a link leads to one item
+  -- a link leads to one node
   lead_is : (link : PlainLink) (x y : Node) → Leads image link x y → above image x link ≡ y
-  lead_is link x y h = same_item (above image x link) y
+  lead_is link x y h = same_node (above image x link) y
       (ap (λ (n : ℕ). image (link_text x.imprint link n)) (sym h.level) ∙ sym h.imprint) (sym h.level)
 
   leads_up : (link : PlainLink) (x : Node) → level_above x.level link ≤ 255 → Leads image link x (above image x link)
@@ -84,7 +84,7 @@ module _ (image : List ℕ → List ℕ) where
       subst (λ (o : PlainLink). Leads image o u v) l (subst (λ (z : Node). Leads image link z v) s (subst (λ (z : Node). Leads image link x z) t h))
 
   module _ (x y top : Node) (link : PlainLink) (links : List PlainLink) (lead : Leads image link x y) (h : Climbs image y links top) where
-    each_on : (k : ℕ) (l : PlainLink) (u v : Node) → slice_get (link ∷ links) k ≡ Some l → slice_get (x ∷ h.items) k ≡ Some u → slice_get (x ∷ h.items) (k + 1) ≡ Some v → Leads image l u v
+    each_on : (k : ℕ) (l : PlainLink) (u v : Node) → slice_get (link ∷ links) k ≡ Some l → slice_get (x ∷ h.nodes) k ≡ Some u → slice_get (x ∷ h.nodes) (k + 1) ≡ Some v → Leads image l u v
     each_on zero l u v is below next =
         let first = h.first in
         let same_link : link ≡ l = cc in
@@ -93,24 +93,24 @@ module _ (image : List ℕ → List ℕ) where
         leads_same link l x y u v same_link same_below same_next lead
     each_on (suc k) l u v is below next =
         let s : suc (k + 1) ≡ suc k + 1 = omega arith in
-        h.each k l u v is below (ap (λ (n : ℕ). slice_get (x ∷ h.items) n) s ∙ next)
+        h.each k l u v is below (ap (λ (n : ℕ). slice_get (x ∷ h.nodes) n) s ∙ next)
 
     climbs_on : Climbs image x (link ∷ links) top
-    climbs_on = record { items = x ∷ h.items; count = (let c = h.count in omega arith); first = refl; last = h.last; each = each_on }
+    climbs_on = record { nodes = x ∷ h.nodes; count = (let c = h.count in omega arith); first = refl; last = h.last; each = each_on }
 
   pub climbs_from : (place : ℕ) (x : Node) (links : List PlainLink) (top : Node) → climbed image place x links ≡ Ok top → Climbs image x links top
-  climbs_from place x [] top e = record { items = x ∷ []; count = refl; first = refl; last = (let same : x ≡ top = cc in ap (λ (z : Node). Some z) same); each = λ k l u v is below next. cc }
+  climbs_from place x [] top e = record { nodes = x ∷ []; count = refl; first = refl; last = (let same : x ≡ top = cc in ap (λ (z : Node). Some z) same); each = λ k l u v is below next. cc }
   climbs_from place x (link ∷ links) top e = elim (lt_cases 255 (level_above x.level link)) [
     | inl t ↦ (let here = rw t.0 at e in cc)
     | inr f ↦ (let here = rw f.0 at e in climbs_on x (above image x link) top link links (leads_up link x f.1) (climbs_from (place + 1) (above image x link) links top here))
   ]
 
-  climbs_list : (place : ℕ) (x : Node) (items : List Node) (links : List PlainLink) (top : Node) → length items ≡ length links + 1 → slice_get items 0 ≡ Some x → slice_get items (length links) ≡ Some top
-      → ((k : ℕ) (l : PlainLink) (u v : Node) → slice_get links k ≡ Some l → slice_get items k ≡ Some u → slice_get items (k + 1) ≡ Some v → Leads image l u v) → climbed image place x links ≡ Ok top
+  climbs_list : (place : ℕ) (x : Node) (nodes : List Node) (links : List PlainLink) (top : Node) → length nodes ≡ length links + 1 → slice_get nodes 0 ≡ Some x → slice_get nodes (length links) ≡ Some top
+      → ((k : ℕ) (l : PlainLink) (u v : Node) → slice_get links k ≡ Some l → slice_get nodes k ≡ Some u → slice_get nodes (k + 1) ≡ Some v → Leads image l u v) → climbed image place x links ≡ Ok top
   climbs_list place x [] links top count first last each = absurd (omega arith)
-  climbs_list place x (z ∷ items) [] top count first last each = let same : x ≡ top = cc in ap (λ (t : Node). Ok t) same
+  climbs_list place x (z ∷ nodes) [] top count first last each = let same : x ≡ top = cc in ap (λ (t : Node). Ok t) same
   climbs_list place x (z ∷ []) (link ∷ links) top count first last each = absurd (omega arith)
-  climbs_list place x (z ∷ y ∷ items) (link ∷ links) top count first last each =
+  climbs_list place x (z ∷ y ∷ nodes) (link ∷ links) top count first last each =
       let same : z ≡ x = cc in
       let lead : Leads image link x y = subst (λ (t : Node). Leads image link t y) same (each 0 link z y refl refl refl) in
       let level = lead.level in
@@ -118,12 +118,12 @@ module _ (image : List ℕ → List ℕ) where
       elim (lt_cases 255 (level_above x.level link)) [
         | inl t ↦ absurd (omega arith)
         | inr f ↦ rw f.0 (ap (λ (t : Node). climbed image (place + 1) t links) (lead_is link x y lead)
-            ∙ climbs_list (place + 1) y (y ∷ items) links top (omega arith) refl last
-            (λ k l u v is below next. each (suc k) l u v is below (let s : suc k + 1 ≡ suc (k + 1) = omega arith in ap (λ (n : ℕ). slice_get (z ∷ y ∷ items) n) s ∙ next)))
+            ∙ climbs_list (place + 1) y (y ∷ nodes) links top (omega arith) refl last
+            (λ k l u v is below next. each (suc k) l u v is below (let s : suc k + 1 ≡ suc (k + 1) = omega arith in ap (λ (n : ℕ). slice_get (z ∷ y ∷ nodes) n) s ∙ next)))
       ]
 
   pub climbs_to : (place : ℕ) (x : Node) (links : List PlainLink) (top : Node) → Climbs image x links top → climbed image place x links ≡ Ok top
-  climbs_to place x links top h = climbs_list place x h.items links top h.count h.first h.last h.each
+  climbs_to place x links top h = climbs_list place x h.nodes links top h.count h.first h.last h.each
 
   pub passes_from : (place : ℕ) (x : Node) (links : List PlainLink) (p high : ℕ) → climbed image place x links ≡ Err (Over p high) → (j : ℕ) × (p ≡ place + j) × PassesLevels x.level links j high
   passes_from place x [] p high e = cc
@@ -241,24 +241,24 @@ module _ (image : List ℕ → List ℕ) where
       | inr f ↦ (
           let text : side_text side node sibling high ≡ side_text link.side imprint link.sibling (level_above level link) = λ i. side_text (s i) (n i) (b i) (up i) in
           let same : next ≡ image (link_text imprint link (level_above level link)) = is_next ∙ ap image text in
-          rw f.0 (ap (λ (x : Node). climbed image (place + 1) x links) (sym (same_item (record { imprint = next; level = high }) (above image (record { imprint = imprint; level = level }) link) same up))))
+          rw f.0 (ap (λ (x : Node). climbed image (place + 1) x links) (sym (same_node (record { imprint = next; level = high }) (above image (record { imprint = imprint; level = level }) link) same up))))
     ]
 
   -- ---- as a loop climbs
 
-  module _ (place : ℕ) (item : Node) (link : PlainLink) (links : List PlainLink) (all : Result Node LevelFault) (lt : place < length links) (is : link ≡ get_or links place link)
-      (so_far : climbed image place item (drop place links) ≡ all) where
+  module _ (place : ℕ) (node : Node) (link : PlainLink) (links : List PlainLink) (all : Result Node LevelFault) (lt : place < length links) (is : link ≡ get_or links place link)
+      (so_far : climbed image place node (drop place links) ≡ all) where
     rest_is : drop place links ≡ link ∷ drop (place + 1) links
     rest_is = let s : suc place ≡ place + 1 = omega arith in
         drop-cons links place link lt ∙ ap (λ (l : PlainLink). l ∷ drop (suc place) links) (sym is) ∙ ap (λ (n : ℕ). link ∷ drop n links) s
 
-    here : climbed image place item (link ∷ drop (place + 1) links) ≡ all
-    here = ap (climbed image place item) (sym rest_is) ∙ so_far
+    here : climbed image place node (link ∷ drop (place + 1) links) ≡ all
+    here = ap (climbed image place node) (sym rest_is) ∙ so_far
 
-    pub loop_stops : (fault : LevelFault) → ((more : List PlainLink) → climbed image place item (link ∷ more) ≡ Err fault) → Err fault ≡ all
+    pub loop_stops : (fault : LevelFault) → ((more : List PlainLink) → climbed image place node (link ∷ more) ≡ Err fault) → Err fault ≡ all
     loop_stops fault stops = sym (stops (drop (place + 1) links)) ∙ here
 
-    pub loop_goes : (next : Node) → ((more : List PlainLink) → climbed image place item (link ∷ more) ≡ climbed image (place + 1) next more) → climbed image (place + 1) next (drop (place + 1) links) ≡ all
+    pub loop_goes : (next : Node) → ((more : List PlainLink) → climbed image place node (link ∷ more) ≡ climbed image (place + 1) next more) → climbed image (place + 1) next (drop (place + 1) links) ≡ all
     loop_goes next goes = sym (goes (drop (place + 1) links)) ∙ here
 
   pub loop_ends : (place : ℕ) (x : Node) (links : List PlainLink) (all : Result Node LevelFault) → length links ≤ place → climbed image place x (drop place links) ≡ all → Ok x ≡ all
@@ -284,9 +284,9 @@ level_rises level (link ∷ links) = omega (arith, level_cons level link links, 
 pub one_fault : (start place high other_place other : ℕ) (links : List PlainLink) → PassesLevels start links place high → PassesLevels start links other_place other → (place ≡ other_place) × (high ≡ other)
 one_fault start place high other_place other links h k =
     let image = λ (bytes : List ℕ). bytes in
-    let item : Node = record { imprint = []; level = start } in
-    let a = passes_to image 0 item links place high h in
-    let b = passes_to image 0 item links other_place other k in
+    let node : Node = record { imprint = []; level = start } in
+    let a = passes_to image 0 node links place high h in
+    let b = passes_to image 0 node links other_place other k in
     let places : 0 + place ≡ 0 + other_place = cc in
     let levels : high ≡ other = cc in
     (omega arith, levels)

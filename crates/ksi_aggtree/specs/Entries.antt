@@ -1,4 +1,4 @@
--- The items of a round with where they came from. In a tree the items stand without their origins.
+-- The items of a round with their origins. The tree is built over the items without their origins.
 use Rattle.std.specs.Prelude.{◌≡◌, ℕ, Bool, false, ◌==◌, List, [], ◌∷◌, length, map}
 use Rattle.std.specs.List.{list_any}
 use Rattle.ksi_imprint.specs.Imprints.{zero_imprint}
@@ -8,7 +8,7 @@ use Rattle.ksi_aggtree.specs.declared.entries.Origin.TheVariants as origins
 use Rattle.ksi_aggtree.specs.declared.entries.Entry.{Entry}
 use Rattle.ksi_aggtree.specs.Rounds.{most_items, tree_of}
 
--- the items alone
+-- the items without their origins
 abbrev pub items_of : List Entry → List Item
 items_of entries = map (λ (entry : Entry). entry.item) entries
 
@@ -21,7 +21,7 @@ is_from aggregator (origins.Aggregator from) = from == aggregator
 abbrev pub has_from : ℕ → List Entry → Bool
 has_from aggregator entries = list_any (λ (entry : Entry). is_from aggregator entry.origin) entries
 
--- what is sent to where an item came from: one message to an aggregator, none for a request
+-- the messages to the origin of an item: one to an aggregator, none for a request
 abbrev pub to_sender : {Sent : Type 0} → (ℕ → Sent) → Origin → List Sent
 to_sender send (origins.Request number) = []
 to_sender send (origins.Aggregator from) = send from ∷ []
@@ -30,18 +30,18 @@ to_sender send (origins.Aggregator from) = send from ∷ []
 abbrev pub is_full : List Entry → Bool
 is_full entries = length entries == most_items
 
--- what a round stands for: the imprint of its tree, the zero imprint where there are no items
+-- the imprint of a round's tree, or the zero imprint if it has no items
 abbrev pub candidate_of : (List ℕ → List ℕ) → List Entry → List ℕ
 candidate_of image [] = zero_imprint
 candidate_of image (entry ∷ entries) = (tree_of image (items_of (entry ∷ entries))).imprint
 
--- each origin beside its item
+-- each origin paired with its item
 abbrev pub entries_of : List Origin → List Item → List Entry
 entries_of [] items = []
 entries_of (origin ∷ others) [] = []
 entries_of (origin ∷ others) (item ∷ items) = record { origin = origin; item = item } ∷ entries_of others items
 
--- what is kept beside the items: an origin for each, and the aggregators among the origins
+-- what is stored with the items: an origin for each, and the aggregators among the origins
 pub record AreKept (origins : List Origin) (items : List Item) (has_sender : ℕ → Bool) : Type 0 where
   pub count : length origins ≡ length items
   pub senders : (aggregator : ℕ) → has_sender aggregator ≡ list_any (is_from aggregator) origins

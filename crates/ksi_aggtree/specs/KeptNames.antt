@@ -1,10 +1,10 @@
--- How a name is kept, in front of zero bytes, for the proof of the code: in one way alone.
+-- The stored form of a name, padded with zero bytes, for the proof of the code: each name has one form.
 use Rattle.std.proofs.Common.{◌≡◌, ℕ, ◌-◌, ◌≤◌, List, ◌++◌, length, take, drop, sym, ap, ◌∙◌, arith, take-append-drop, length-take-le}
 use Rattle.std.specs.Prelude.{replicate}
 use Rattle.ksi_aggtree.specs.declared.name.Name.TheInside.{Inside}
 use Rattle.ksi_aggtree.specs.Names.{IsName, most_letters}
 
--- the first n bytes are the name, and zero bytes stand behind them
+-- the first n bytes are the name, and zero bytes follow
 pub record IsKeptName (bytes : List ℕ) (n : ℕ) : Type 0 where
   pub all : length bytes ≡ most_letters
   pub few : n ≤ most_letters

@@ -1,4 +1,4 @@
--- Links whose siblings are lent.
+-- Links with borrowed siblings.
 use Rattle.std.specs.Prelude.{List, map}
 use Rattle.ksi_aggtree.specs.Links.{PlainLink}
 use Rattle.ksi_aggtree.specs.declared.chains.link_view.LinkView.{LinkView}

@@ -1,4 +1,4 @@
--- The names of those who submit, and the metadata that stands for a name in a tree.
+-- The names of those who submit, and the metadata that encodes a name in a tree.
 use Rattle.std.specs.Prelude.{◌≡◌, ℕ, ◌+◌, ◌≤◌, ◌%◌, ◌||◌, ◌&&◌, Bool, true, ◌==◌, List, [], ◌∷◌, ◌++◌, length, if◌then◌else◌}
 use Rattle.std.specs.Char.{is_ascii_alphanumeric}
 

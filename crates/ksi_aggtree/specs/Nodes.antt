@@ -1,4 +1,4 @@
--- What sides from the top lead to in a round's tree, and the string that it is made of.
+-- The node of a round's tree that sides from the top lead to, and the string that it is the hash of.
 use Rattle.std.specs.Prelude.{◌≡◌, ℕ, zero, suc, ◌+◌, ◌-◌, ◌==◌, List, [], ◌∷◌, ◌++◌, length, max, Option, Some, None, if◌then◌else◌}
 use Rattle.ksi_imprint.specs.Imprints.{join_text}
 use Rattle.ksi_split.specs.Powers.{split_of}
@@ -15,25 +15,25 @@ use Rattle.ksi_aggtree.specs.declared.parts.OtherPart.{OtherPart}
 use Rattle.ksi_aggtree.specs.declared.parts.OtherPart.TheVariants.{Imprint, Metadata}
 use Rattle.ksi_aggtree.specs.Rounds.{item_at, as_node, named_text, tree_from}
 
--- what sides lead to below one leaf: what stands on its left, below which there is nothing
+-- below the leaf of an item, sides lead only to the left: to the item itself
 abbrev pub below_leaf : ℕ → Side → List Side → Option Reached
 below_leaf k Left [] = Some (Below k)
 below_leaf k Left (side ∷ sides) = None
 below_leaf k Right sides = None
 
--- what sides lead to from a part down: the part itself, or what they lead to in one of both halves
+-- from a part, sides lead to the part itself, or into one of its halves
 abbrev pub reached_from : Part → List Side → Option Reached
 reached_from part [] = Some (Items part.first part.count)
 reached_from part (side ∷ sides) = if part.count == 1 then below_leaf part.first side sides else reached_from (half_of part side) sides
 
--- what sides from the top of the tree of n items lead to
+-- where sides lead from the top of the tree of n items
 abbrev pub reached_in : ℕ → List Side → Option Reached
 reached_in zero sides = None
 reached_in (suc last) sides = reached_from (record { first = 0; count = suc last }) sides
 
 -- ---- nodes
 
--- what stands on the left below an item's leaf: the item, where it has a name
+-- the node on the left below an item's leaf: the item, if it has a name
 abbrev pub node_below : Item → Option (List ℕ) → Option Node
 node_below item None = None
 node_below item (Some name) = Some (as_node item)
@@ -49,16 +49,16 @@ node_of image items sides = node_in image items (reached_in (length items) sides
 
 -- ---- strings of nodes
 
--- what is hashed where both parts are joined
+-- the input of the join of both parts
 abbrev pub parts_text : Node → Node → List ℕ
 parts_text left right = join_text left.imprint right.imprint (max left.level right.level + 1)
 
--- what is hashed for the leaf of an item, where it has a name
+-- the string of an item's leaf, if it has a name
 abbrev pub leaf_text : Item → Option (List ℕ) → Option (List ℕ)
 leaf_text item None = None
 leaf_text item (Some name) = Some (named_text item name)
 
--- what is hashed for the tree of the n items from lo
+-- the string of the tree of the n items from lo
 abbrev pub text_from : (List ℕ → List ℕ) → List Item → ℕ → ℕ → Option (List ℕ)
 text_from image items lo n =
     if n == 1
@@ -70,8 +70,8 @@ text_in image items None = None
 text_in image items (Some (Items first count)) = text_from image items first count
 text_in image items (Some (Below k)) = None
 
--- the string that the node at these sides is made of, where it is a join: of both parts of two items or more, or of a named
--- item and its metadata
+-- the string that the node at these sides is the hash of, if it is a join: of both parts of two items or more, or of a
+-- named item and its metadata
 abbrev pub text_of : (List ℕ → List ℕ) → List Item → List Side → Option (List ℕ)
 text_of image items sides = text_in image items (reached_in (length items) sides)
 
@@ -87,7 +87,7 @@ pub record LeadsBelow (items : List Item) (sides : List Side) (k : ℕ) : Type 0
 
 -- ---- in the code
 
--- the bytes that stand behind the left imprint
+-- the bytes after the left imprint
 abbrev pub other_bytes : OtherPart → List ℕ
 other_bytes (Imprint bytes) = bytes
 other_bytes (Metadata bytes) = bytes

@@ -11,20 +11,20 @@ use Rattle.ksi_aggtree.specs.declared.chains.link.Sibling.TheVariants.{Imprint, 
 use Rattle.ksi_aggtree.specs.Names.{meta_of}
 use Rattle.ksi_aggtree.specs.Rounds.{item_at, leaf_of_place, tree_path}
 
--- the link that leads from a level to the join with the other part: it makes up for what the level is below that part's
+-- the link from a level to the join with the other part; its correction covers the levels that are missing below that part's
 abbrev pub link_beside : ℕ → TreeLink Node → Link
 link_beside level other = record { side = other.side; correction = max level other.sibling.level - level; sibling = Imprint other.sibling.imprint }
 
--- the links from a level up, beside the other parts
+-- the links from a level up, with the other parts as siblings
 abbrev pub links_from : ℕ → List (TreeLink Node) → List Link
 links_from level [] = []
 links_from level (other ∷ others) = link_beside level other ∷ links_from (max level other.sibling.level + 1) others
 
--- the link from an item to the leaf of its name: the item stands on the left of the name's metadata, one level below
+-- the link from an item to its leaf: the item is on the left of the name's metadata, one level below
 abbrev pub name_link : List ℕ → Link
 name_link name = record { side = Left; correction = 0; sibling = Metadata (meta_of name) }
 
--- the links from an item to its leaf: one where it has a name
+-- the links from an item to its leaf: one if it has a name
 abbrev pub name_links : Option (List ℕ) → List Link
 name_links None = []
 name_links (Some name) = name_link name ∷ []
@@ -33,15 +33,15 @@ name_links (Some name) = name_link name ∷ []
 abbrev pub chain_of : (List ℕ → List ℕ) → List Item → ℕ → List Link
 chain_of image items k = name_links (item_at items k).name ++ links_from (leaf_of_place image items k).level (tree_path image items k)
 
--- the sides from an item's leaf down to the item: left where it has a name
+-- the sides from an item's leaf down to the item: left if it has a name
 abbrev pub name_sides : Option (List ℕ) → List Side
 name_sides None = []
 name_sides (Some name) = Left ∷ []
 
--- the way of item k, the sides from the top down to it: that of its leaf, and from there to the item
+-- the path of item k, the sides from the top down to it: the path of its leaf, and from there to the item
 abbrev pub item_way : List Item → ℕ → List Side
 item_way items k = way_of k (length items) ++ name_sides (item_at items k).name
 
--- the sides of links that stand from the bottom, from the top down
+-- the sides of links from the bottom, listed from the top
 abbrev pub sides_from_top : List Link → List Side
 sides_from_top links = reverse (map (λ link. link.side) links)

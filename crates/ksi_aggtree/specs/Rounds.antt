@@ -17,7 +17,7 @@ joined_at image left right level = record { imprint = image (join_text left.impr
 abbrev pub aggregation_join : (List ℕ → List ℕ) → Node → Node → Node
 aggregation_join image left right = joined_at image left right (max left.level right.level + 1)
 
--- what stands for an item where there is none
+-- the item past the end of a list
 abbrev pub no_item : Item
 no_item = record { imprint = zero_imprint; level = 0; name = None }
 
@@ -25,7 +25,7 @@ no_item = record { imprint = zero_imprint; level = 0; name = None }
 abbrev pub item_at : List Item → ℕ → Item
 item_at items k = slice_index_or items k no_item
 
--- the node of an item's own imprint and level: what its chain climbs from
+-- the node of an item's own imprint and level, from which its chain climbs
 abbrev pub as_node : Item → Node
 as_node item = record { imprint = item.imprint; level = item.level }
 
@@ -33,11 +33,11 @@ as_node item = record { imprint = item.imprint; level = item.level }
 abbrev pub as_item : Node → Item
 as_item node = record { imprint = node.imprint; level = node.level; name = None }
 
--- the item with this name, or with none
+-- the item with this name, or without a name
 abbrev pub with_name : Option (List ℕ) → Item → Item
 with_name name item = record item { name = name }
 
--- the level of an item's leaf: the item's own, one more where it has a name
+-- the level of an item's leaf: the item's own, or one more if it has a name
 abbrev pub named_level : ℕ → Option (List ℕ) → ℕ
 named_level level None = level
 named_level level (Some name) = level + 1
@@ -45,20 +45,20 @@ named_level level (Some name) = level + 1
 abbrev pub leaf_level : Item → ℕ
 leaf_level item = named_level item.level item.name
 
--- what is hashed for the leaf of an item that has this name: the item's imprint, the name's metadata and the leaf's level
+-- the string of the leaf of an item with this name: the item's imprint, the name's metadata and the leaf's level
 abbrev pub named_text : Item → List ℕ → List ℕ
 named_text item name = join_text item.imprint (meta_of name) (item.level + 1)
 
--- the imprint of an item's leaf: the item's own, or where it has a name that of the join with its metadata
+-- the imprint of an item's leaf: the item's own, or if it has a name, that of the join with its metadata
 abbrev pub named_imprint : (List ℕ → List ℕ) → Item → Option (List ℕ) → List ℕ
 named_imprint image item None = item.imprint
 named_imprint image item (Some name) = image (named_text item name)
 
--- the leaf that stands for an item in a tree
+-- the leaf of an item in a tree
 abbrev pub leaf : (List ℕ → List ℕ) → Item → Node
 leaf image item = record { imprint = named_imprint image item item.name; level = leaf_level item }
 
--- the leaf of the tree at a place: that of the item there
+-- the leaf of the item at a place
 abbrev pub leaf_of_place : (List ℕ → List ℕ) → List Item → ℕ → Node
 leaf_of_place image items k = leaf image (item_at items k)
 
@@ -70,12 +70,12 @@ tree_from image items lo n = tree (aggregation_join image) (leaf_of_place image 
 abbrev pub tree_of : (List ℕ → List ℕ) → List Item → Node
 tree_of image items = tree_from image items 0 (length items)
 
--- the items of a tree, where there is one
+-- the items of a tree, if there is one
 abbrev pub some_items : List Item → Option (List Item)
 some_items [] = None
 some_items (item ∷ others) = Some (item ∷ others)
 
--- the root of the tree, where there is an item
+-- the root of the tree, if there is an item
 abbrev pub root_from : ℕ → Node → Option Node
 root_from zero root = None
 root_from (suc n) root = Some root
@@ -95,7 +95,7 @@ most_items = 65536
 abbrev pub highest_item : ℕ
 highest_item = 239
 
--- a round: so many items at most, the leaf of each of such a level at most
+-- a round: a limit on the number of items and on the level of each leaf
 pub record IsRound (items : List Item) : Type 0 where
   pub few : length items ≤ most_items
   pub low : (k : ℕ) → leaf_level (item_at items k) ≤ highest_item
@@ -106,7 +106,7 @@ pub record IsRound (items : List Item) : Type 0 where
 abbrev pub capped_join : (List ℕ → List ℕ) → Node → Node → Node
 capped_join image left right = joined_at image left right (min (max left.level right.level + 1) highest_level)
 
--- what is kept beside the items: their leaves, before which no others stand
+-- what is stored with the items: their leaves, with none before them
 pub record AreLeaves (image : List ℕ → List ℕ) (leaves : Leaves Node) (items : List Item) : Type 0 where
   pub start : leaves.start ≡ 0
   pub before : leaves.before ≡ leaf image no_item

@@ -9,7 +9,7 @@ abbrev pub side_bit : Side → ℕ
 side_bit Left = 1
 side_bit Right = 0
 
--- bit i is that of side i from the bottom, and a leading one stands above them
+-- bit i is the bit of side i from the bottom, and a leading one is above them
 pub record IsShape (sides : List Side) (shape : ℕ) : Type 0 where
   pub leading : shape / 2 ^ length sides ≡ 1
   pub bits : (i : ℕ) (side : Side) → slice_get sides i ≡ Some side → bit_at shape i ≡ side_bit side

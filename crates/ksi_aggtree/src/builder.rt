@@ -83,7 +83,7 @@ impl<C: Compress> Builder<C> {
         self.items[k]
     }
 
-    /// The tree of the items, none where there is no item.
+    /// The tree of the items, or none if there is no item.
     pub fn root(&self) -> Option<Node>
         ensures { result ≡ root_of C.image self.now }
     {

@@ -110,14 +110,14 @@ impl<C: Compress> Entries<C> {
         self.senders.contains(&aggregator)
     }
 
-    /// The tree of the items, none where there is no item.
+    /// The tree of the items, or none if there is no item.
     pub fn root(&self) -> Option<Node>
         ensures { result ≡ root_of C.image (items_of self.now) }
     {
         self.round.root()
     }
 
-    /// What the items stand for: the imprint of their tree, the zero imprint where there is no item.
+    /// The imprint of the items' tree, or the zero imprint if there is no item.
     pub fn candidate(&self) -> Imprint
         ensures { result ≡ candidate_of C.image self.now }
     {

@@ -13,7 +13,7 @@ pub const MOST_ITEMS: usize = 65536;
 /// The highest level that a leaf may have, and so an item without a name.
 pub const HIGHEST_ITEM: u8 = 239;
 
-/// What is submitted to a round and kept: an imprint at a level, with the name of who submitted it where there is one.
+/// An item that is submitted to a round and kept: an imprint at a level, and perhaps the name of the submitter.
 #[derive(Clone, Copy, PartialEq, Eq, Debug)]
 pub struct Item {
     pub imprint: Imprint,

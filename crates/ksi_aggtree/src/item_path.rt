@@ -74,7 +74,7 @@ impl ItemPath {
     }
 }
 
-/// The link from an item to its leaf, where it has a name, with room for so many links more.
+/// The link from an item to its leaf, where it has a name, with room for this many links more.
 fn begun(alloc: Global, name: &Option<Name>, more: usize) -> Result<Vec<Link>, NoMemory>
     requires { more ≤ 64 }
     ensures links { IfOk result (λ vec. vec.items ≡ name_links name.now) }

@@ -1,18 +1,19 @@
-//! Rounds of an aggregation: their items, the Merkle tree over the leaves of these, its root and the chains of the items.
+//! Rounds of an aggregation: their items, the Merkle tree over the items' leaves, its root, and the chains of the items.
 //!
-//! The tree of more than one item is cut as `ksi_split` says. Its level is one above the greater level of both parts,
+//! A tree of more than one item is split as in `ksi_split`. Its level is one above the greater level of both parts,
 //! and its imprint is the join of both at that level (Buldas, Kroonmaa, Laanoja, "Keyless Signatures' Infrastructure",
 //! 2013). A round has at most 65,536 items, whose leaves have levels to 239, so that no level passes 255.
 //!
-//! An [`Item`] is what is submitted and kept, and may have a [`Name`]. Its leaf is the node that stands for it in a tree:
-//! the item itself, or where it has a name its join with the name's metadata, one level above it. The layer above may rely
-//! on this: `root` is the tree over the leaves; the links of `path` climb from an item to it along the item's way; `node`
-//! is the tree of the part that sides lead to, or the item below the leaf of a named one. Only `add` and the paths take
-//! memory, and after a refused `add` all is as it was. A [`Tree`] is the same over lent items, and tells also what a node is
-//! joined of; `root_with` is the root over a slice and one item more. They take no memory, and compute each node from its
-//! leaves. A path takes at most 32 steps, each the read of one stored node, and one step at least for the item and for each
-//! link but that of its name. [`Entries`] is a round that also keeps where each item came from, a request or an aggregator.
-//! What holds of the definitions is in `laws`. How links are climbed, and what shape they have, is in [`chains`].
+//! An [`Item`] is submitted to a round and stored there, and may have a [`Name`]. Its leaf is its node in the tree: the
+//! item itself, or if it has a name, its join with the name's metadata, one level above it. The layer above may rely on
+//! this: `root` is the tree over the leaves; the links of `path` climb from an item to the root along the item's path;
+//! `node` is the tree of the part that sides lead to, or the item below the leaf of a named one. Only `add` and the paths
+//! allocate memory, and a refused `add` changes nothing. A [`Tree`] is the same over borrowed items, and also returns the
+//! parts that a node is the join of; `root_with` is the root over a slice and one more item. They allocate no memory, and
+//! compute each node from its leaves. A path takes at most 32 steps, each the read of one stored node, and at least one
+//! step for the item and for each link except the one of its name. [`Entries`] is a round that also stores the origin of
+//! each item, a request or an aggregator. Laws on the definitions are in `laws`. Climbing along links, and the shape of
+//! links, are in [`chains`].
 //!
 //! ```text
 //! let mut round = Builder::<Sha>::new(alloc)?;

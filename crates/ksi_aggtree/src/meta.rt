@@ -59,7 +59,7 @@ fn laid(front: &[u8], name: &[u8]) -> [u8; 70]
     bytes
 }
 
-/// The padding before a name of so many bytes.
+/// The padding before a name of this many bytes.
 fn padding(n: usize) -> &'static [u8]
     ensures bytes { result.now ≡ padding n }
     ensures few { length result.now ≤ 4 }

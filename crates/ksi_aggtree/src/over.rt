@@ -43,7 +43,7 @@ pub(crate) fn node_with<C: Compress>(items: &[Item], last: &Item, sides: &[Side]
     }
 }
 
-/// What stands on the left below the leaf of an item: the item, where it has a name.
+/// The left child of the leaf of an item: the item, where it has a name.
 pub(crate) fn below(item: &Item) -> Option<Node>
     ensures { result ≡ node_below item.now item.now.name }
 {

@@ -12,7 +12,7 @@ pub struct NodeParts {
     pub level: u8,
 }
 
-/// What stands on the right of a join.
+/// The right part of a join.
 #[derive(Drop)]
 pub enum OtherPart {
     /// The imprint of the right part of two items or more.

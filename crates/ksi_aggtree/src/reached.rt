@@ -12,7 +12,7 @@ use ksi_split::{Side, split};
 pub(crate) enum Reached {
     /// A part of the items: the first of them, and how many they are.
     Items(usize, usize),
-    /// What stands on the left below the leaf of this item.
+    /// The left child of the leaf of this item.
     Below(usize),
 }
 
@@ -48,7 +48,7 @@ fn below(k: usize, side: Side, lower: &[Side]) -> Option<Reached>
     }
 }
 
-/// How many of the items stand in the left part.
+/// How many of the items are in the left part.
 #[tactic(auto, using(crate::proofs::Halves::height_left))]
 pub(crate) fn left_half(count: usize, height: u8) -> usize
     requires some { 1 < count }

@@ -42,7 +42,7 @@ impl<'a, C: Compress> Model for Tree<'a, C> {
 }
 
 impl<'a, C: Compress> Tree<'a, C> {
-    /// The tree over the items of a round, none where there is no item.
+    /// The tree over the items of a round, or none if there is no item.
     pub fn over(items: &'a [Item]) -> Option<Self>
         requires { IsRound items.now }
         ensures { result ≡ some_items items.now }

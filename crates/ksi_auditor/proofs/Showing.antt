@@ -99,7 +99,7 @@ pub low : (climbs : (image : List ℕ → List ℕ) (start top : Node) (links : 
     (lead : (image : List ℕ → List ℕ) (chains : List PlainChain) (start item : Node) → ChainsLead image start chains item → Climbs image start (all_links chains) item)
     (image : List ℕ → List ℕ) (signature : Signature) (hash : List ℕ) (publications : List (ℕ × List ℕ)) (t : ℕ) → IsAccepted image signature hash publications t → level_after 0 (links_of signature) ≤ 255
 low climbs lead image signature hash publications t a =
-    (climbed_ends image 0 (at_level_zero hash) a.item (links_of signature) ((climbs image (at_level_zero hash) a.item (links_of signature)).1 (lead image (plain_chains signature.chains) (at_level_zero hash) a.item a.chains.lead)) (omega arith)).1
+    (climbed_ends image 0 (at_level_zero hash) a.node (links_of signature) ((climbs image (at_level_zero hash) a.node (links_of signature)).1 (lead image (plain_chains signature.chains) (at_level_zero hash) a.node a.chains.lead)) (omega arith)).1
 
 some_is : {A : Type 0} {x y : A} → ◌≡◌ {A = Option A} (Some x) (Some y) → x ≡ y
 some_is e = cc
@@ -130,8 +130,8 @@ module _ (laws : Laws) (image : List ℕ → List ℕ) (lawful : (bytes : List �
     covered : (calendars.is_covered (calendar_of j) p ≡ true) × (p < j.start + length (calendar_of j).roots)
     covered = ((laws.covered image j p journal).1 all_kept, ((laws.within image j p journal).1 all_kept).1)
 
-    top : (climbed_to image start links ≡ a.item) × (level_after 0 links ≤ 255)
-    top = climbed_ends image 0 start a.item links ((laws.climbs image start a.item links).1 (laws.lead image (plain_chains signature.chains) start a.item a.chains.lead)) (omega arith)
+    top : (climbed_to image start links ≡ a.node) × (level_after 0 links ≤ 255)
+    top = climbed_ends image 0 start a.node links ((laws.climbs image start a.node links).1 (laws.lead image (plain_chains signature.chains) start a.node a.chains.lead)) (omega arith)
 
     input_is : (climbed_to image start links).imprint ≡ a.calendar.input
     input_is = ap (λ (x : Node). x.imprint) top.0 ∙ sym a.input

@@ -49,7 +49,7 @@ item_pairs image items links hash = pairs_below (text_of image items) [] (rungs_
 
 -- ---- where the links end
 
--- the item, of so many, whose leaf the sides lead to, or pass where they are too many
+-- the item, of this many, whose leaf the sides lead to, or pass if they are too many
 abbrev pub item_by : ℕ → List Side → Result ℕ ShapeFault → ℕ
 item_by count sides (Ok item) = item
 item_by count sides (Err (TooMany place)) = result_unwrap_or (second_at (count - 1) (take place sides)) 0

@@ -76,7 +76,7 @@ Shows image journal signature hash (BeforeStart p) = Unit {0}
 Shows image journal signature hash (Undecided second) = Unit {0}
 Shows image journal signature hash (NotDecided p given kept) = Unit {0}
 
--- the answer says where the hash stands, or has a clash
+-- the answer has the place of the hash, or a clash
 abbrev pub Tells : Audit → Type 0
 Tells (Inside t way) = Unit {0}
 Tells (Beneath t item links) = Unit {0}

@@ -2,12 +2,12 @@ use ksi_imprint::{Clash, Imprint};
 use ksi_split::Way;
 use ksi_verifier::Refusal;
 
-/// Where the hash of an accepted signature stands in a journal, or why the audit does not come so far.
+/// The place of an accepted signature's hash in a journal, or the reason why the audit finds none.
 #[derive(Drop)]
 pub enum Audit {
     /// It is a node of the tree that is kept for this second, the one that these sides lead to from the top.
     Inside(u64, Way),
-    /// It stands beneath this item of this second: so many links lead from it to the item.
+    /// It stands beneath this item of this second: this many links lead from it to the item.
     Beneath(u64, u64, u64),
     /// The string of a link, and another kept one with the same imprint.
     Clash(Clash),

@@ -36,18 +36,18 @@ use ksi_verifier::{
 use std::alloc::Global;
 use std::marker::PhantomData;
 
-/// Where the hash of a signature stands in a journal.
+/// The place of a signature's hash in a journal.
 ///
-/// First come the checks of the signature, then whether its publication time is before the start, whether all seconds from
-/// the start to it are kept, and whether the root that the signature leads to is the kept one. Then each link's string,
-/// from the top, is compared with the one of the kept tree: the first that differs is a clash. Where none does, the hash is
-/// a node of the tree of its second, or leads to one of its items. Only a clash takes memory.
+/// The checks of the signature come first. Then come the checks that its publication time is not before the start, that
+/// all seconds from the start to it are kept, and that the root that the signature leads to is the kept one. Then each
+/// link's string, from the top, is compared with the one of the kept tree: the first that differs is a clash. If none
+/// differs, the hash is a node of the tree of its second, or leads to one of its items. Only a clash allocates memory.
 ///
-/// A signature for a second before the start, or for a missed one, is accepted against a decided publication only with a
-/// clash.
+/// If a signature for a second before the start, or for a missed one, is accepted against a decided publication, the audit
+/// returns a clash.
 ///
 /// # Errors
-/// `NoMemory` only where the answer would be a clash.
+/// `NoMemory` only if the answer would be a clash.
 pub fn audit<C: Compress>(
     alloc: Global,
     journal: &Journal<C>,
@@ -165,7 +165,7 @@ fn lent<C: Compress, P: Published>(
     }
 }
 
-/// Of a verdict on a signature, and its chains, whoever owns them: the refusal, or where its hash stands.
+/// Of a verdict on a signature, and its chains, whoever owns them: the refusal, or the place of its hash.
 fn of_verdict<C: Compress, T: LaidChain>(
     alloc: Global,
     journal: &Journal<C>,
@@ -192,7 +192,7 @@ fn of_verdict<C: Compress, T: LaidChain>(
     }
 }
 
-/// Of an accepted signature: whether its publication is decided, and then where its hash stands.
+/// Of an accepted signature: whether its publication is decided, and then the place of its hash.
 fn decide<C: Compress, T: LaidChain>(
     alloc: Global,
     journal: &Journal<C>,
@@ -220,7 +220,7 @@ fn decide<C: Compress, T: LaidChain>(
     }
 }
 
-/// Of an accepted signature whose seconds are kept: whether it leads to the kept root, and then where its hash stands.
+/// Of an accepted signature whose seconds are kept: whether it leads to the kept root, and then the place of its hash.
 fn compare_roots<C: Compress, T: LaidChain>(
     alloc: Global,
     journal: &Journal<C>,

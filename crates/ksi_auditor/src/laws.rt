@@ -43,7 +43,7 @@ pub fn audit_shows()
     calendar_is_covered();
 }
 
-/// An audit of an accepted signature, whose publication is decided, tells where the hash stands, or has a clash.
+/// An audit of an accepted signature, whose publication is decided, returns the place of the hash, or a clash.
 pub fn decided_tells()
     ensures { (image : List ℕ → List ℕ) (journal : Contents) (signature : Signature) (hash : List ℕ)
         (publications : List (ℕ × List ℕ)) (t : ℕ) → IsJournal image journal →

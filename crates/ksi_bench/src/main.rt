@@ -1,5 +1,5 @@
-//! Times the work of one kernel: `ksi_bench KERNEL COUNT [FILE ..]` prints `KERNEL COUNT NANOSECONDS` and ends with one byte
-//! of what was computed. bench/README.md tells the kernels. With other words it prints nothing and ends with 2.
+//! Times the work of one kernel: `ksi_bench KERNEL COUNT [FILE ..]` prints `KERNEL COUNT NANOSECONDS` and exits with one
+//! byte of the result. bench/README.md lists the kernels. With other words it prints nothing and exits with 2.
 #![tactic(auto)]
 
 mod calendars;

@@ -11,8 +11,7 @@ use Rattle.ksi_calendar.specs.Climbing.{calendar_element_text}
 use Rattle.ksi_beside.specs.declared.walk.Walk.{Walk}
 use Rattle.ksi_beside.specs.declared.walk.Walk.TheVariants.{Apart, At, Past}
 
--- a link as it is climbed: the side on which the node below it stands, that node's imprint, the other part, and the level
--- of the join
+-- a link as it is climbed: the side of the node below it, that node's imprint, the other part, and the level of the join
 pub record Rung : Type 0 where
   pub side : Side
   pub below : List ℕ
@@ -64,8 +63,8 @@ differing (pair ∷ pairs) = if bytes_eq pair.0 pair.1 then differing pairs else
 
 -- ---- where links end beside a kept tree
 
--- links from a place down, so many of which have a string beside them: the first pair of different strings; else where they
--- all lead, or where the tree has no string and links are left
+-- links from a place down, this many of which have a string to be compared with: the first pair of different strings;
+-- otherwise the place that they all lead to, or the place at which the tree has no string and links are left
 abbrev pub ended : List Side → List Rung → ℕ → Option Pair → Walk
 ended sides rungs passed (Some pair) = Apart (record { one = pair.0; two = pair.1 })
 ended sides rungs passed None =
@@ -101,6 +100,6 @@ IsShortWalk (Apart clash) = AreShort clash
 IsShortWalk (At sides) = Unit {0}
 IsShortWalk (Past sides) = Unit {0}
 
--- siblings of at most so many bytes
+-- siblings of at most this many bytes
 abbrev pub IsShortLink : PlainLink → Type 0
 IsShortLink link = length link.sibling ≤ 4096

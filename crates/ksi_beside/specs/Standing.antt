@@ -3,14 +3,14 @@ use Rattle.std.specs.Prelude.{◌≡◌, ℕ, Bool, true, List, [], ◌∷◌, �
 use Rattle.ksi_split.specs.declared.side.Side.{Side}
 use Rattle.ksi_beside.specs.Beside.{Rung, rung_side, rung_text, pairs_below}
 
--- each link's string has the imprint that stands below the next one, from y down to x
+-- each link's string has the imprint that is below the next one, from y down to x
 abbrev pub Holds : (List ℕ → List ℕ) → List ℕ → List ℕ → List Rung → Type 0
 Holds image x y [] = x ≡ y
 Holds image x y (rung ∷ rungs) = (y ≡ image (rung_text rung)) × Holds image x rung.below rungs
 
--- What is kept is a tree: `node` says which imprint stands at which sides, and `kept` of which string it is the image, where
--- it is a join. A link that fits, and has the string that is kept at some sides, has below it, on its side, the imprint that
--- stands there in the tree.
+-- A kept tree: `node` has the imprint at sides, and `kept` the string of which it is the image, if it is a join. If a
+-- link fits, and has the string that is kept at some sides, then the imprint below it, on its side, is the one that the
+-- tree has there.
 pub record IsTree (image : List ℕ → List ℕ) (kept : List Side → Option (List ℕ)) (node : List Side → Option (List ℕ)) (fits : Rung → Bool) : Type 0 where
   pub hashes : (sides : List Side) (text : List ℕ) → kept sides ≡ Some text → node sides ≡ Some (image text)
   pub below : (sides : List Side) (rung : Rung) → fits rung ≡ true → kept sides ≡ Some (rung_text rung) → node (sides ++ rung.side ∷ []) ≡ Some rung.below

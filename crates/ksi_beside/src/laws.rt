@@ -14,8 +14,8 @@ pub fn one_after_another()
         laid_on kept walk (rungs ++ more) ≡ laid_on kept (laid_on kept walk rungs) more }
 {}
 
-/// Links that lead up to a node of a tree, each of which fits it: the first of their strings that is not the tree's is a clash
-/// with it, and where none is, they stand in the tree.
+/// Links that lead up to a node of a tree, each of which fits it: the first of their strings that differs from the tree's
+/// is a clash with it, and if none differs, they are in the tree.
 pub fn beside_a_tree()
     ensures clash { (image : List ℕ → List ℕ) (kept : List Side → Option (List ℕ)) (node : List Side → Option (List ℕ))
         (fits : Rung → Bool) (rungs : List Rung) (above : List Side) (x y : List ℕ) (pair : Pair) →

@@ -1,16 +1,17 @@
-//! Links laid beside a tree that somebody keeps: the string that each of them hashes beside the string that the tree has at
-//! its place, from the top, as Merkle's trees are compared (Merkle, "A Certified Digital Signature", 1989).
+//! Compares a hash chain with a stored Merkle tree, node by node from the root (Merkle, "A Certified Digital Signature",
+//! 1989).
 //!
-//! Links lead up from a node to the root of a tree. Where the tree that is kept has the same root, each link's string is
-//! the one that the tree has there, or the first that is not has the image of another string: a clash of the hash function.
+//! Links lead up from a node to the root of a tree. If the stored tree has the same root, each link's string is the one
+//! that the tree has there, or the first one that differs has the image of another string: a collision (*clash*) of the
+//! hash function.
 //!
-//! The layer above may rely on this: [`along_calendar`] and [`along_links`] say exactly what their definition says: the
-//! first string of a link that is another one than the tree's, with that one, or the place that the links end at, or the
-//! one where the tree has no join and links are left. Whoever keeps the tree says so by [`KeptTree`]. Two strings are the same
-//! where all their bytes are, wherever each is cut into its parts: the left part is an imprint, but the right one may be
-//! metadata of any length. Links of several chains are laid one chain after the other, the uppermost first. Memory is taken for
-//! both strings of a clash alone, so that it is wanting only where the answer is a clash. What holds of the definition is in
-//! [`laws`].
+//! The layers above may rely on this: [`along_calendar`] and [`along_links`] return exactly the result of their definition.
+//! It is the first string of a link that differs from the tree's, with the tree's; or the place at which the links end; or
+//! the place at which the tree ends and links are left. A stored tree implements [`KeptTree`]. Two strings are equal if all
+//! their bytes are, however each is cut into its parts: the left part is an imprint, but the right one may be metadata of
+//! any length. The links of several chains are compared one chain after the other, the uppermost first. Only the two
+//! strings of a collision need memory, so `NoMemory` occurs only if the answer would be a clash. Laws on the definition are
+//! in [`laws`].
 //!
 //! ```text
 //! match along_links::<Sha, Tree, Link>(alloc, &tree, Walk::At(Place::top()), &below, &links)? {

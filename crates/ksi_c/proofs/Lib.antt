@@ -1,3 +1,4 @@
 pub mod Deciding
 pub mod Padding
 pub mod Lending
+pub mod Stating

@@ -16,7 +16,7 @@ abbrev pub side_number : Side → ℕ
 side_number Left = 0
 side_number Right = 1
 
--- so many bytes: the first ones, and zeros behind them where they are fewer
+-- this many bytes: the first ones, followed by zeros if they are fewer
 unfoldable pub padded : ℕ → List ℕ → List ℕ
 padded room bytes = take room bytes ++ replicate (room - length bytes) 0
 
@@ -35,7 +35,7 @@ step_told step = record {
   sibling = padded 4096 step.sibling;
 }
 
--- what stands there stays, where there is no step
+-- if there is no step, the old content stays
 abbrev pub step_or : KsiStep → Option PlainStep → KsiStep
 step_or old None = old
 step_or old (Some step) = step_told step
@@ -44,7 +44,7 @@ abbrev pub found_status : Option PlainStep → ℕ
 found_status None = 1
 found_status (Some step) = 0
 
--- of what bytes are read as: the step of a number, where they are a signature that has so many
+-- the step of this number, if the bytes are a signature that has it
 abbrev pub step_in : Result Signature SignatureFault → ℕ → Option PlainStep
 step_in (Ok signature) number = slice_get (steps imprint_of signature) number
 step_in (Err fault) number = None

@@ -1,2 +1,4 @@
 pub mod Answers
 pub mod Drawn
+pub mod Fronts
+pub mod Seconds

@@ -1,6 +1,8 @@
 // Verdicts as numbers and digests.
 ghost use Rattle.std.specs.Prelude.{◌≡◌, ◌∷◌, [], drop};
-ghost use Rattle.ksi_c.specs.Answers.{answer, answered, digests_told, difference_told, no_digest, numbers_told, or_zero, parts_there, publications_fault_told, refusal_told, shape_told, signature_fault_told, told};
+ghost use Rattle.ksi_verifier.specs.declared.files_verdict.FilesVerdict.TheVariants as files;
+ghost use Rattle.ksi_verifier.specs.declared.proved.Proved as declared;
+ghost use Rattle.ksi_c.specs.Answers.{answer, answered, digests_told, difference_told, no_digest, numbers_told, or_zero, parts_there, proved_told, publications_fault_told, refusal_told, shape_told, signature_fault_told, told};
 
 use crate::answer::KsiAnswer;
 use crate::told::Told;
@@ -8,21 +10,27 @@ use ksi_imprint::Imprint;
 use ksi_publications::PublicationsFault;
 use ksi_signature::SignatureFault;
 use ksi_split::ShapeFault;
-use ksi_verifier::{FilesVerdict, RecordDifference, Refusal};
+use ksi_verifier::{FilesVerdict, Proved, RecordDifference, Refusal};
 
 /// What is answered of a verdict.
 pub(crate) fn answered(verdict: &FilesVerdict) -> KsiAnswer
-    ensures { result ≡ answered verdict.now }
+    ensures value { result ≡ answered verdict.now }
+    // A root is the byte 1 and the digest that is answered.
+    ensures root { (proved : declared.Proved) → verdict.now ≡ files.Accepted proved → proved.root ≡ 1 ∷ drop 1 proved.root }
 {
     match verdict {
-        FilesVerdict::Accepted(second) => answer(0, 0, *second, &numbers_told(0, [0; 4])),
+        FilesVerdict::Accepted(proved) => {
+            proved.root.bytes();
+            answer(0, 0, proved.second, &proved_told(proved))
+        }
         FilesVerdict::Refused(refusal) => answer(1, 0, 0, &refusal_told(refusal)),
         FilesVerdict::NotSignature(fault) => answer(3, 1, 0, &signature_fault_told(*fault)),
         FilesVerdict::NotPublications(fault) => answer(3, 3, 0, &publications_fault_told(*fault)),
     }
 }
 
-fn answer(status: u32, file: u32, second: u64, told: &Told) -> KsiAnswer
+/// An answer of these values.
+pub(crate) fn answer(status: u32, file: u32, second: u64, told: &Told) -> KsiAnswer
     ensures { result ≡ answer status file second told.now }
 {
     KsiAnswer {
@@ -34,6 +42,18 @@ fn answer(status: u32, file: u32, second: u64, told: &Told) -> KsiAnswer
         numbers: told.numbers,
         one: told.one,
         other: told.other,
+    }
+}
+
+fn proved_told(proved: &Proved) -> Told
+    ensures { result ≡ proved_told proved.now }
+{
+    Told {
+        code: 0,
+        detail: 0,
+        numbers: [proved.publication, 0, 0, 0],
+        one: digest_of(&proved.root),
+        other: [0; 32],
     }
 }
 
@@ -171,7 +191,7 @@ fn publications_fault_told(fault: PublicationsFault) -> Told
     }
 }
 
-fn at_place(code: u32, place: usize) -> Told
+pub(crate) fn at_place(code: u32, place: usize) -> Told
     ensures { result ≡ numbers_told code place 0 0 0 }
 {
     numbers_told(code, [place as u64, 0, 0, 0])
@@ -183,7 +203,7 @@ fn of_kind(code: u32, kind: u16, place: usize) -> Told
     numbers_told(code, [kind as u64, place as u64, 0, 0])
 }
 
-fn numbers_told(code: u32, numbers: [u64; 4]) -> Told
+pub(crate) fn numbers_told(code: u32, numbers: [u64; 4]) -> Told
     ensures { result ≡ told code 0 numbers no_digest no_digest }
 {
     detailed(code, 0, numbers)
@@ -201,7 +221,13 @@ fn detailed(code: u32, detail: u32, numbers: [u64; 4]) -> Told
     }
 }
 
-fn digests_told(code: u32, detail: u32, number: u64, one: &Imprint, other: &Imprint) -> Told
+pub(crate) fn digests_told(
+    code: u32,
+    detail: u32,
+    number: u64,
+    one: &Imprint,
+    other: &Imprint,
+) -> Told
     ensures { result ≡ digests_told code detail number one.now other.now }
 {
     Told {

@@ -31,10 +31,10 @@ calendar_path image seconds t p = path_of (calendar_join image) (calendar_leaf s
 abbrev pub is_covered : Seconds → ℕ → Bool
 is_covered seconds p = nat_le seconds.start p && nat_lt p (seconds.start + length seconds.roots)
 
--- the root of the seconds from 0 to p, where p is covered
+-- the root of the seconds from 0 to p, if p is covered
 abbrev pub root_to : (List ℕ → List ℕ) → Seconds → ℕ → Option (List ℕ)
 root_to image seconds p = if is_covered seconds p then Some (calendar_root image seconds p) else None
 
--- the node of the tree over the seconds from 0 to p that sides from the top lead to, where p is covered and they pass no leaf
+-- the node that sides lead to, from the top of the tree over the seconds from 0 to p, if p is covered and they pass no leaf
 abbrev pub node_of : (List ℕ → List ℕ) → Seconds → ℕ → List Side → Option (List ℕ)
 node_of image seconds p sides = if is_covered seconds p then node_at (calendar_join image) (calendar_leaf seconds) p sides else None

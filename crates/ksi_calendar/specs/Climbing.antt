@@ -4,7 +4,7 @@ use Rattle.ksi_imprint.specs.Imprints.{join_text}
 use Rattle.ksi_split.specs.Trees.{link_from}
 use Rattle.ksi_split.specs.declared.tree_link.TreeLink.{TreeLink}
 
--- what is hashed where two nodes of the calendar are joined: the level byte is 0xff
+-- the input of the join of two nodes of the calendar: the level byte is 0xff
 abbrev pub calendar_join_text : List ℕ → List ℕ → List ℕ
 calendar_join_text left right = join_text left right 255
 
@@ -12,7 +12,7 @@ calendar_join_text left right = join_text left right 255
 abbrev pub calendar_join : (List ℕ → List ℕ) → List ℕ → List ℕ → List ℕ
 calendar_join image left right = image (calendar_join_text left right)
 
--- the string of a link: what its join hashes, from a node with this imprint
+-- the string of a link: the input of its join, from a node with this imprint
 abbrev pub calendar_element_text : List ℕ → TreeLink (List ℕ) → List ℕ
 calendar_element_text imprint link = link_from calendar_join_text imprint link link.side
 

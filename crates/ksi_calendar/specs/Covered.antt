@@ -4,7 +4,7 @@ use Rattle.ksi_imprint.specs.Imprints.{zero_imprint}
 use Rattle.ksi_split.specs.declared.tree_link.TreeLink.{TreeLink}
 use Rattle.ksi_calendar.specs.Calendar.{Seconds, calendar_root, calendar_path}
 
--- what is known of each second's root
+-- the root of each second, if it is known
 abbrev pub Roots : Type 0
 Roots = ℕ → Option (List ℕ)
 
@@ -31,7 +31,7 @@ abbrev pub missing_among : Roots → (second n : ℕ) → Option ℕ
 missing_among roots second zero = None
 missing_among roots second (suc n) = earlier_of second (roots second) (missing_among roots (suc second) n)
 
--- the first second from the start to the last that has no root, none where all have one
+-- the first second from the start to the last that has no root, or none if all have one
 unfoldable pub first_missing : Roots → (start last : ℕ) → Option ℕ
 first_missing roots start last = missing_among roots start (suc last - start)
 

@@ -9,3 +9,6 @@ pub mod Leafing
 pub mod Finding
 pub mod Again
 pub mod Ordered
+pub mod Keeping
+pub mod Counting
+pub mod Between

@@ -22,7 +22,7 @@ apart_among old new t (suc n) = if bytes_eq (calendar_leaf old t) (calendar_leaf
 unfoldable pub first_apart : (old new : Seconds) → (p : ℕ) → Option ℕ
 first_apart old new p = apart_among old new 0 (p + 1)
 
--- ---- the first two strings that differ, of those that stand side by side on the way down to that second
+-- ---- the first two strings that differ, in pairs on the path down to that second
 
 -- what a part of more than one leaf hashes: both its own parts
 abbrev pub part_text : (List ℕ → List ℕ) → Seconds → (first count : ℕ) → List ℕ
@@ -45,8 +45,8 @@ below_clash image old new first count (Right ∷ sides) =
 abbrev pub clash_to : (List ℕ → List ℕ) → (old new : Seconds) → (second first count : ℕ) → Clash
 clash_to image old new second first count = below_clash image old new first count (way_of (second - first) count)
 
--- in the part of n leaves from `first`, the first m of which are in the old calendar: the strings that the imprints of a
--- front, the last one first, are joined by stand beside those of the calendars; where both calendars have one tree, go on
+-- in the part of n leaves from `first`, the first m of which are in the old calendar: the strings of the joins of a
+-- front's imprints, the last one first, in pairs with those of the calendars; if both calendars have one tree, go on
 -- below that
 unfoldable pub front_clash : (List ℕ → List ℕ) → (old new : Seconds) → (given : List ℕ) → (second first m n : ℕ) → List (List ℕ) → Clash
 front_clash image old new given second first m n [] = clash_to image old new second first m

@@ -8,7 +8,7 @@ use Rattle.ksi_consistency.specs.declared.roots.Roots.{Roots}
 use Rattle.ksi_consistency.specs.declared.refusal.FrontRefusal.{FrontRefusal}
 use Rattle.ksi_consistency.specs.declared.refusal.FrontRefusal.TheVariants.{Length, OldDiffers, NewDiffers}
 
--- both roots, where another part stands on the right of what holds all of the first leaves
+-- both roots, if another part is to the right of the one with all of the first leaves
 abbrev pub joined_right : (List ℕ → List ℕ) → Roots → List ℕ → Roots
 joined_right image inner x = record { old = inner.old; new = calendar_join image inner.new x }
 

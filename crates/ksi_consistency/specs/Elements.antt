@@ -1,4 +1,4 @@
--- The elements of a front's file in their order: what each says behind those before it, or its fault.
+-- The elements of a front's file in their order: the meaning of each after those before it, or its fault.
 use Rattle.std.specs.Prelude.{ℕ, ◌==◌, ◌<◌, ◌≤◌, ◌^◌, nat_lt, List, [], ◌∷◌, ◌++◌, Bool, true, false, Result, Ok, Err, if◌then◌else◌}
 use Rattle.std.specs.List.{AllByRecursion}
 use Rattle.ksi_imprint.specs.Imprints.{IsImprint}
@@ -28,13 +28,13 @@ pub record IsFront (front : Contents) : Type 0 where
   pub bounded : IsBounded front.p1 front.p2
   pub imprints : AllByRecursion IsImprint front.list
 
--- What the elements so far say: what stands next, and what the front then has. Before the newer second is read, it is the
--- least that it may be.
+-- The meaning of the elements so far: which may come next, and what the front then has. Before the newer second is read,
+-- it is the least that it may be.
 pub record Said : Type 0 where
   pub stage : Stage
   pub contents : Contents
 
--- the kinds that may stand next: 1 the older second, 2 the newer one, 3 an imprint
+-- the kinds that may come next: 1 the older second, 2 the newer one, 3 an imprint
 abbrev pub kinds_next : Stage → List ℕ
 kinds_next Old = 1 ∷ []
 kinds_next New = 2 ∷ []

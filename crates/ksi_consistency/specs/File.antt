@@ -9,7 +9,7 @@ use Rattle.ksi_consistency.specs.Elements.{Contents, Said, front_order, nothing_
 abbrev pub magic : List ℕ
 magic = codes "KSIFRNT1"
 
--- behind the magic stand whole elements in their order, which say what the front has
+-- after the magic there are whole elements in their order, which encode the content of the front
 unfoldable pub front_format : Format Said FrontFault Contents
 front_format = record { magic = magic; other = faults.Magic; order = front_order; start = nothing_yet; value = λ s. s.contents }
 

@@ -8,6 +8,6 @@ use Rattle.ksi_consistency.specs.File.{magic}
 abbrev pub front_kinds : Contents → List ℕ
 front_kinds front = 1 ∷ 2 ∷ map (λ imprint. 3) front.list
 
--- behind the magic stand whole elements, and their kinds are those of the front, one for one
+-- after the magic there are whole elements, and their kinds are those of the front, one for one
 abbrev pub IsInOrder : List ℕ → Contents → Type 0
 IsInOrder bytes front = HasKinds magic (front_kinds front) bytes

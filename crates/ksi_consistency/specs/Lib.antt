@@ -9,3 +9,4 @@ pub mod Wanting
 pub mod Written
 pub mod Kinds
 pub mod Reading
+pub mod Few

@@ -1,14 +1,14 @@
-//! Fronts of the hash calendar: proofs that the calendar of the seconds from 0 to `p1` is the beginning of that of the seconds
-//! from 0 to `p2`, as a log of certificates proves that it only grew: a consistency proof (RFC 9162, 2.1.4; Go's `sumdb/tlog`).
+//! Fronts of the hash calendar: consistency proofs (RFC 9162, 2.1.4; Go's `sumdb/tlog`). A front proves that the calendar
+//! of the seconds from 0 to `p1` is a prefix of that of the seconds from 0 to `p2`.
 //!
-//! A front is a list of parts of the newer calendar, at most one for each level. With the older root they lead to the newer
-//! one, and by themselves to the older one. [`prove`] and [`check`] go through the same cases, side by side.
+//! A front is a list of subtrees of the newer calendar, at most one for each level. Together with the older root they lead
+//! to the newer root, and alone they lead to the older one. [`prove`] and [`check`] distinguish the same cases.
 //!
-//! The layer above may rely on this: [`prove`] gives exactly the list of the definition, and it is accepted; [`check`]
-//! gives the first of three refusals that stands, and takes no memory; [`compare`] says of two kept calendars what a front
-//! shows of them: where it is accepted between their roots, they have the same leaves to `p1`, or two different strings with
-//! one imprint come out. [`Front`] is a front with both seconds, [`read_front`] and [`write_front`] are its file both ways.
-//! What holds of the definitions is in [`laws`].
+//! The layers above may rely on this. [`prove`] returns exactly the list of the definition, and that list is accepted.
+//! [`check`] returns the first of three refusals that applies, and allocates no memory. [`compare`] compares two kept
+//! calendars: if a front is accepted between their roots, they have the same leaves to `p1`, or it returns two different
+//! strings with one imprint. [`Front`] is a front with both seconds; [`read_front`] and [`write_front`] read and write its
+//! file. Laws on the definitions are in [`laws`].
 //!
 //! ```text
 //! let front = prove(alloc, &calendar, p1, p2)?;
@@ -26,12 +26,16 @@ mod compared;
 mod comparing;
 mod differing;
 mod fault;
+mod few;
+mod file_checking;
+mod file_refusal;
 mod halves;
 mod imprints;
 mod join;
 mod kept;
 pub mod laws;
 mod loading;
+mod noting;
 mod proving;
 mod reader;
 mod refusal;
@@ -43,6 +47,8 @@ mod writer;
 pub use compared::Compared;
 pub use comparing::compare;
 pub use fault::FrontFault;
+pub use file_checking::check_file;
+pub use file_refusal::FileRefusal;
 pub use imprints::Imprints;
 pub use ksi_imprint::{NoMemory, Refused};
 pub use proving::{check, prove};

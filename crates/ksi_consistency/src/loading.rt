@@ -3,19 +3,13 @@ ghost use Rattle.ksi_consistency.specs.Elements.{named};
 
 use crate::fault::FrontFault;
 use crate::imprints::Imprints;
-use crate::stage::Stage;
+use crate::stage::{NEW, OLD, Stage};
 use crate::value::Front;
 use ksi_imprint::{Imprint, Refused};
 use ksi_tlv::Placed;
 use ksi_tlv::order::{OrderFault, Ordered, imprint, time};
 use std::alloc::Global;
 use std::marker::Model;
-
-pub(crate) const OLD: u16 = 0x01;
-
-pub(crate) const NEW: u16 = 0x02;
-
-pub(crate) const IMPRINT: u16 = 0x03;
 
 /// What the elements so far say.
 #[derive(Drop)]
@@ -128,11 +122,7 @@ impl Ordered<FrontFault> for Loading {
     ghost wants = { WantsFor };
 
     fn may_stand(&self, kind: u16) -> bool {
-        match self.stage {
-            Stage::Old => kind == OLD,
-            Stage::New => kind == NEW,
-            Stage::Imprints => kind == IMPRINT,
-        }
+        self.stage.allows(kind)
     }
 
     fn is_closed(&self) -> bool {
@@ -158,7 +148,7 @@ impl Ordered<FrontFault> for Loading {
 }
 
 /// A fault of order by its name here.
-fn named(fault: OrderFault) -> FrontFault
+pub(crate) fn named(fault: OrderFault) -> FrontFault
     ensures { result ≡ named fault }
 {
     match fault {

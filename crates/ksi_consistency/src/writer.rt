@@ -7,8 +7,8 @@ ghost use Rattle.ksi_consistency.specs.File.{IsFrontFile};
 ghost use Rattle.ksi_consistency.specs.Written.{front_elements, front_text, imprint_elements};
 
 use crate::laws::written_is_front;
-use crate::loading::{IMPRINT, NEW, OLD};
 use crate::reader::MAGIC;
+use crate::stage::{IMPRINT, NEW, OLD};
 use crate::value::Front;
 use ksi_imprint::{Bytes, Imprint, NoMemory};
 use ksi_tlv::Writer;

@@ -1,4 +1,4 @@
--- What a contract sees of a core: each of its seconds.
+-- The state of a core as its contracts describe it: each of its seconds.
 use Rattle.std.specs.Prelude.{◌≡◌, ℕ, ◌==◌, if◌then◌else◌, List, option_map}
 use Rattle.ksi_aggtree.specs.declared.entries.Entry.{Entry}
 use Rattle.ksi_corenode.specs.declared.stable.StablePart.{StablePart}
@@ -10,12 +10,13 @@ use Rattle.ksi_calendar.specs.Covered.{Roots}
 use Rattle.ksi_corenode.specs.Turns.{Turn}
 use Rattle.ksi_corenode.specs.Facts.{fact_of}
 
--- its number, the plan of the cores, the first second, and what is stored of the seconds that something came for: the
--- stable parts of the settled seconds and of the unsettled, all sealed items, and the volatile parts
+-- its number, the plan of the cores, the first second, how many of the first settled seconds are stored as bare roots, the
+-- stable parts of the settled seconds and of the unsettled ones, all sealed items, and the volatile parts
 pub record CoreState : Type 0 where
   pub me : ℕ
   pub plan : CorePlanState
   pub start : ℕ
+  pub bare : ℕ
   pub settled : List StablePart
   pub unsettled : List (ℕ × StablePart)
   pub items : List Entry
@@ -25,29 +26,29 @@ pub record CoreState : Type 0 where
 abbrev pub stable_at : CoreState → (second : ℕ) → StablePart
 stable_at core second = part_at core.start core.settled core.unsettled second
 
--- a second of the core; where nothing came, one before anything came
+-- the state of a second; of a second without events, the fresh state
 unfoldable pub state_of : CoreState → (second : ℕ) → SecondState
 state_of core second = second_of core.me (voters_of core.plan second) core.items (stable_at core second) (volatile_at core.volatile_parts second)
 
--- what the core holds for each second
+-- the root that the core holds for each second
 abbrev pub held_by : CoreState → Roots
 held_by core second = (state_of core second).vote.held
 
--- the core is as it was
+-- the core is unchanged
 pub record IsSame (old new : CoreState) : Type 0 where
   pub me : new.me ≡ old.me
   pub plan : new.plan ≡ old.plan
   pub start : new.start ≡ old.start
   pub seconds : (t : ℕ) → state_of new t ≡ state_of old t
 
--- a second is another, and all else is as it was
+-- one second changed, and nothing else
 pub record IsChange (old new : CoreState) (second : ℕ) (after : SecondState) : Type 0 where
   pub me : new.me ≡ old.me
   pub plan : new.plan ≡ old.plan
   pub start : new.start ≡ old.start
   pub seconds : (t : ℕ) → state_of new t ≡ (if t == second then after else state_of old t)
 
--- the step is this turn of the second, and all else is as it was
+-- the step is this turn of the second, and nothing else changed
 pub record IsTurn (old new : CoreState) (second : ℕ) (turn : Turn) (step : Step) : Type 0 where
   pub me : new.me ≡ old.me
   pub plan : new.plan ≡ old.plan

@@ -1,4 +1,4 @@
--- A call of a core as a value, when it may come, and its row.
+-- A call of a core as a value, the precondition of the call, and its row.
 use Rattle.std.specs.Prelude.{ℕ, ◌≤◌, ◌<◌, ◌^◌, List}
 use Rattle.ksi_aggtree.specs.Rounds.{leaf_level, highest_item}
 use Rattle.ksi_synod.specs.Rows.{OfBallot}
@@ -18,11 +18,11 @@ event_second (events.Tell second) = second
 event_second (events.Respond second) = second
 event_second (events.Publish second) = second
 
--- the second may be asked for: it is at or after the start and below 2^63
+-- the second is in range: at or after the start and below 2^63
 abbrev pub IsAsked : CoreState → (second : ℕ) → Type 0
 IsAsked core second = (core.start ≤ second) × (second < 2 ^ 63)
 
--- an item's leaf has a level of at most 239; a message is of a core below 9 and names a ballot, if any
+-- the level of an item's leaf is at most 239; a message comes from a core below 9, and the ballot it names, if any, is valid
 abbrev pub MayTake : CoreState → CoreEvent → Type 0
 MayTake core (events.Submission from second item) = leaf_level item ≤ highest_item
 MayTake core (events.Seal second) = Unit {0}
@@ -32,7 +32,7 @@ MayTake core (events.Tell second) = Unit {0}
 MayTake core (events.Respond second) = IsAsked core second
 MayTake core (events.Publish second) = IsAsked core second
 
--- what an event makes of its second: the turn of its row. Publish has an answer alone
+-- the effect of an event on its second: the turn of its row. Publish only has an answer
 abbrev pub core_row : (List ℕ → List ℕ) → CoreState → CoreEvent → Turn
 core_row image core (events.Submission from second item) = submission_row from item (state_of core second)
 core_row image core (events.Seal second) = seal_row image (state_of core second)

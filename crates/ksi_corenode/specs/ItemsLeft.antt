@@ -1,4 +1,4 @@
--- What a walk over the sealed items of a second still gives.
+-- The items that an iterator over the sealed items of a second has yet to return.
 use Rattle.std.specs.Prelude.{List}
 use Rattle.ksi_aggtree.specs.declared.item.Item.{Item}
 use Rattle.ksi_aggtree.specs.Entries.{items_of}

@@ -1,13 +1,13 @@
--- What a step of the vote leaves.
+-- The state that a step of the vote leaves unchanged.
 use Rattle.std.specs.Prelude.{◌≡◌, ℕ, ◌==◌, if◌then◌else◌, List, Some, Option}
 use Rattle.ksi_calendar.specs.Covered.{Roots}
 use Rattle.ksi_synod.specs.VoteState.{VoteState}
 
--- what is held, where this is it for one second
+-- the roots held, with this one for one second
 abbrev pub held_with : Roots → (second : ℕ) → (held : Option (List ℕ)) → Roots
 held_with roots second held t = if t == second then held else roots t
 
--- a step of the vote leaves the core's number, the voters, the candidate, and what is held
+-- a step of the vote does not change the core's number, the voters, the candidate, or a root that is held
 pub record Keeps (old new : VoteState) : Type 0 where
   pub me : new.me ≡ old.me
   pub voters : new.voters ≡ old.voters

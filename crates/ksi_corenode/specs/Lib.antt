@@ -14,3 +14,4 @@ pub mod Lawful
 pub mod Restored
 pub mod Counted
 pub mod ItemsLeft
+pub mod Bare

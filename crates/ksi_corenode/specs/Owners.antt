@@ -1,4 +1,4 @@
--- Whose ballots messages, events and facts name: a ballot is 16 * round + core, and its core is its owner.
+-- The owners of the ballots in messages, events and facts: a ballot is 16 * round + core, and that core owns it.
 use Rattle.std.specs.Prelude.{ℕ, ◌%◌, ◌<◌}
 use Rattle.ksi_synod.specs.declared.messages.SynodMessage.{SynodMessage}
 use Rattle.ksi_synod.specs.declared.messages.SynodMessage.TheVariants as message
@@ -10,11 +10,11 @@ use Rattle.ksi_corenode.specs.declared.fact.What.TheVariants.{Sealed, Tried, Pro
 abbrev pub owner_of : (ballot : ℕ) → ℕ
 owner_of ballot = ballot % 16
 
--- the ballot is of one of so many cores
+-- the ballot belongs to one of this many cores
 abbrev pub IsOwned : (cores ballot : ℕ) → Type 0
 IsOwned cores ballot = owner_of ballot < cores
 
--- so is the ballot that a message names, if any; the vote that a LastVote tells may be of any ballot
+-- so does the ballot that a message names, if any; the vote reported in a LastVote may be of any ballot
 abbrev pub NamesOwned : (cores : ℕ) → SynodMessage → Type 0
 NamesOwned cores (message.NextBallot b) = IsOwned cores b
 NamesOwned cores (message.LastVote l) = IsOwned cores l.ballot
@@ -22,7 +22,7 @@ NamesOwned cores (message.BeginBallot b d) = IsOwned cores b
 NamesOwned cores (message.Voted b) = IsOwned cores b
 NamesOwned cores (message.Success d) = Unit {0}
 
--- so is the ballot that an event brings, if any
+-- so does the ballot in an event, if any
 abbrev pub BringsOwned : (cores : ℕ) → CoreEvent → Type 0
 BringsOwned cores (events.Submission from second item) = Unit {0}
 BringsOwned cores (events.Seal second) = Unit {0}
@@ -32,7 +32,7 @@ BringsOwned cores (events.Tell second) = Unit {0}
 BringsOwned cores (events.Respond second) = Unit {0}
 BringsOwned cores (events.Publish second) = Unit {0}
 
--- so is the ballot that is stored, if any
+-- so does the ballot that is stored, if any
 abbrev pub StoresOwned : (cores : ℕ) → What → Type 0
 StoresOwned cores (Sealed items) = Unit {0}
 StoresOwned cores (Tried ballot) = IsOwned cores ballot

@@ -1,4 +1,4 @@
--- A core that comes back with its facts.
+-- A core restored from its facts.
 use Rattle.std.specs.Prelude.{◌≡◌, ℕ, ◌<◌, ◌^◌, List, [], option_map, Some, None}
 use Rattle.ksi_aggtree.specs.declared.entries.Entry.{Entry}
 use Rattle.ksi_aggtree.specs.Entries.{items_of, candidate_of}
@@ -14,8 +14,8 @@ use Rattle.ksi_corenode.specs.Facts.{StableState, stable_state}
 use Rattle.ksi_corenode.specs.Lawful.{stored_by, AreLawful, AreSubmitted}
 use Rattle.ksi_corenode.specs.CoreState.{CoreState, state_of}
 
--- a second of its stable part alone: the candidate is the imprint of the sealed items' tree, there is no ballot in hand, and
--- no item is open
+-- a second restored from its stable part: the candidate is the imprint of the sealed items' tree, there is no ballot in hand,
+-- and no item is open
 unfoldable pub restored : (List ℕ → List ℕ) → (me : ℕ) → (voters : List ℕ) → StableState → SecondState
 restored image me voters s = record {
   vote = record { me = me; voters = voters; candidate = option_map (candidate_of image) s.sealed; tried = s.tried; promised = s.promised; vote = s.vote; held = s.held; hand = None };
@@ -23,14 +23,14 @@ restored image me voters s = record {
   sealed = s.sealed;
 }
 
--- core me of the plan, each second of which is what the facts make of it
+-- core me of the plan, with each second restored from the facts
 pub record IsOfFacts (image : List ℕ → List ℕ) (me : ℕ) (plan : CorePlanState) (facts : List Fact) (core : CoreState) : Type 0 where
   pub mine : core.me ≡ me
   pub planned : core.plan ≡ plan
   pub begins : core.start ≡ plan.start
   pub seconds : (t : ℕ) → state_of core t ≡ restored image me (voters_of plan t) (stored_by facts t)
 
--- a second with what is stored of it: its ballot in hand and its open items stay
+-- a second after a fact is stored: its ballot in hand and its open items are unchanged
 abbrev pub vote_with : What → VoteState → VoteState
 vote_with (Sealed items) v = v
 vote_with (Tried ballot) v = record v { tried = ballot }
@@ -48,8 +48,8 @@ second_with image (Promised ballot) s = record s { vote = vote_with (Promised ba
 second_with image (Cast vote) s = record s { vote = vote_with (Cast vote) s.vote }
 second_with image (Holds root) s = record s { vote = vote_with (Holds root) s.vote }
 
--- what steps leave of each second of a core, whose number is below 9: its open items are a round that aggregators
--- submitted, its candidate is the imprint of its sealed items' tree, and its ballots are in their range
+-- an invariant of each second of a core, whose number is below 9: its open items are a round that aggregators submitted, its
+-- candidate is the imprint of its sealed items' tree, and its ballots are in range
 pub record IsWell (image : List ℕ → List ℕ) (s : SecondState) : Type 0 where
   pub mine : s.vote.me < 9
   pub round : IsRound (items_of s.open_items)
@@ -58,7 +58,7 @@ pub record IsWell (image : List ℕ → List ℕ) (s : SecondState) : Type 0 whe
   pub tried : s.vote.tried < 2 ^ 36
   pub promised : s.vote.promised < 2 ^ 36
 
--- the core of a plan, which is one of its cores, that stored these facts and no others, in their order, each of them lawfully
+-- a core of the plan that has stored exactly these facts, in order, each of them valid
 pub record HasFacts (image : List ℕ → List ℕ) (plan : CorePlanState) (facts : List Fact) (core : CoreState) : Type 0 where
   pub planned : core.plan ≡ plan
   pub begins : core.start ≡ plan.start

@@ -1,5 +1,5 @@
--- The steps of a core. Each is a function from a second to what the step makes of it. Where the condition of a step does
--- not hold, the second stays and nothing is sent.
+-- The steps of a core. Each is a function from the state of a second to a turn. If the condition of a step does not hold, the
+-- second is unchanged and nothing is sent.
 use Rattle.std.specs.Prelude.{◌≡◌, ◌≢◌, ◌⊎◌, ℕ, suc, Bool, true, false, not, ◌&&◌, if◌then◌else◌, List, [], ◌∷◌, ◌++◌, is_some, Option, Some, None}
 use Rattle.std.specs.Str.{bytes_eq}
 use Rattle.ksi_imprint.specs.Imprints.{zero_imprint}
@@ -31,13 +31,13 @@ use Rattle.ksi_corenode.specs.SecondState.{SecondState}
 use Rattle.ksi_calendar.specs.Covered.{Roots, IsCovered, first_missing, covered_seconds, covered_root}
 use Rattle.ksi_corenode.specs.Turns.{Turn, still, voted_with}
 
--- SUBMISSION of an item by an aggregator: it is one of the open items, where none of that aggregator is there
+-- SUBMISSION of an item by an aggregator: it joins the open items, unless there is one of that aggregator
 
 -- the entry of an item that an aggregator submits
 abbrev pub submitted : (from : ℕ) → Item → Entry
 submitted from item = record { origin = origins.Aggregator from; item = item }
 
--- the open items behind it, and the answer
+-- the open items after it, and the answer
 abbrev pub taken : (from : ℕ) → Item → List Entry → List Entry × Answer
 taken from item entries =
     if has_from from entries then (entries, Known)
@@ -47,40 +47,40 @@ taken from item entries =
 abbrev pub item_taken : SecondState → List Entry × Answer → Turn
 item_taken s row = record { after = record s { open_items = row.0 }; answer = row.1; fact = None; sends = [] }
 
--- Late where the second is sealed; Known where an item of the aggregator is there; Full at 65,536 items; else Done
+-- Late if the second is sealed; Known if the aggregator has an open item; Full at 65,536 items; else Done
 unfoldable pub submission_row : (from : ℕ) → Item → SecondState → Turn
 submission_row from item s = if is_some s.sealed then still s Late else item_taken s (taken from item s.open_items)
 
--- SEAL: the open items are the sealed ones, and the imprint of their tree is the core's candidate
+-- SEAL: the open items become the sealed ones, and the imprint of their tree becomes the core's candidate
 
 -- the second from then on
 abbrev pub sealed_now : (List ℕ → List ℕ) → SecondState → Turn
 sealed_now image s = record { after = record { vote = seal s.vote (candidate_of image s.open_items); open_items = []; sealed = Some s.open_items }; answer = Done; fact = Some (what.Sealed s.open_items); sends = [] }
 
--- Sealed where it is sealed, else Done
+-- Sealed if it is sealed already, else Done
 unfoldable pub seal_row : (List ℕ → List ℕ) → SecondState → Turn
 seal_row image s = if is_some s.sealed then still s Sealed else sealed_now image s
 
--- BALLOT: the core's next ballot is tried, and NextBallot goes to the voters
+-- BALLOT: try the core's next ballot, and send NextBallot to the voters
 
 abbrev pub ballot_answer : Begun → Answer
 ballot_answer begun.Unsealed = Unsealed
 ballot_answer begun.Last = Last
 ballot_answer (begun.Next b) = Done
 
--- the ballot that is tried is stored
+-- store the ballot that is tried
 abbrev pub ballot_fact : Begun → Option What
 ballot_fact begun.Unsealed = None
 ballot_fact begun.Last = None
 ballot_fact (begun.Next b) = Some (what.Tried b)
 
--- Unsealed without a candidate; Last where no round is left; else Done
+-- Unsealed if there is no candidate; Last if no round is left; else Done
 unfoldable pub ballot_row : CorePlanState → (second me : ℕ) → SecondState → Turn
 ballot_row plan second me s = voted_with plan second me s ((try_ballot s.vote).0, ballot_told (try_ballot s.vote).1) (ballot_answer (try_ballot s.vote).1) (ballot_fact (try_ballot s.vote).1)
 
--- THE FIVE MESSAGES OF THE VOTE: what Synod's step says
+-- THE FIVE MESSAGES OF THE VOTE, each by the step of Synod
 
--- the sender counts
+-- count the sender
 abbrev pub counts : Took → Bool
 counts took.Nothing = false
 counts took.Added = true
@@ -94,22 +94,22 @@ is_news v from (message.BeginBallot b d) = (on_begin v b d).1
 is_news v from (message.Voted b) = counts (on_voted v from b).1
 is_news v from (message.Success d) = (on_success v d).1
 
--- Done where it does, else Nothing
+-- Done if it does, else Nothing
 abbrev pub news_answer : Bool → Answer
 news_answer true = Done
 news_answer false = Nothing
 
--- what is stored where a decree is decided, and this was held
+-- the fact to store when a decree is decided, given the root held before
 abbrev pub decided_fact : (held : Option (List ℕ)) → Took → Option What
 decided_fact None (took.Decree d) = Some (what.Holds d)
 decided_fact _ _ = None
 
--- what is stored where this is so
+-- the fact to store if this holds
 abbrev pub where_news : Bool → What → Option What
 where_news true fact = Some fact
 where_news false fact = None
 
--- what a message makes a core store: the ballot that it promises, the vote that it casts, or the root that it holds now
+-- the fact that a core stores for a message: the ballot promised, the vote cast, or the root now held
 abbrev pub receive_fact : VoteState → (from : ℕ) → SynodMessage → Option What
 receive_fact v from (message.NextBallot b) = where_news (is_some (on_next v b).1) (what.Promised b)
 receive_fact v from (message.LastVote l) = None
@@ -120,9 +120,9 @@ receive_fact v from (message.Success d) = where_news (on_success v d).1 (what.Ho
 unfoldable pub receive_row : CorePlanState → (second from : ℕ) → SynodMessage → SecondState → Turn
 receive_row plan second from m s = voted_with plan second from s (receive s.vote from m) (news_answer (is_news s.vote from m)) (receive_fact s.vote from m)
 
--- TELL: Success with what is held goes to all cores
+-- TELL: send Success with the held root to all cores
 
--- Undecided where nothing is held, else Done
+-- Undecided if no root is held, else Done
 abbrev pub tell_answer : (second : ℕ) → (held : Option (List ℕ)) → Answer
 tell_answer second None = Undecided second
 tell_answer second (Some root) = Done
@@ -130,13 +130,13 @@ tell_answer second (Some root) = Done
 unfoldable pub tell_row : CorePlanState → (second me : ℕ) → SecondState → Turn
 tell_row plan second me s = voted_with plan second me s (s.vote, held_told s.vote.held) (tell_answer second s.vote.held) None
 
--- RESPOND: each aggregator whose item was sealed is told the way from its item to the calendar of this second
+-- RESPOND: send each aggregator whose item was sealed the path from its item to the root of the calendar to this second
 
--- the held root is the core's own candidate, and no missed second's
+-- the held root is the core's own candidate, and not the zero imprint of a missed second
 abbrev pub is_mine : (List ℕ → List ℕ) → List Entry → (root : List ℕ) → Bool
 is_mine image entries root = bytes_eq (candidate_of image entries) root && not (bytes_eq root zero_imprint)
 
--- what stands above item k of the round in this calendar
+-- the path from item k of the round to the root in this calendar
 abbrev pub above_item : (List ℕ → List ℕ) → Seconds → (second : ℕ) → (root : List ℕ) → List Item → ℕ → Above
 above_item image seconds second root items k = record {
   root = root;
@@ -144,7 +144,7 @@ above_item image seconds second root items k = record {
   calendar = calendar_path image seconds second second;
 }
 
--- a response goes to an aggregator; a request's item has none
+-- the response is sent to the item's aggregator; the item of a request has none
 abbrev pub response_to : Origin → Above → List Send
 response_to origin above = to_sender (λ from. sends.Response from above) origin
 
@@ -153,12 +153,12 @@ abbrev pub responses_from : (ℕ → Above) → ℕ → List Entry → List Send
 responses_from above k [] = []
 responses_from above k (entry ∷ entries) = response_to entry.origin (above k) ++ responses_from above (suc k) entries
 
--- all responses are sent
+-- send all responses
 abbrev pub responded : (List ℕ → List ℕ) → Roots → (start second : ℕ) → List Entry → (root : List ℕ) → SecondState → Turn
 responded image held start second entries root s = record { after = s; answer = Done; fact = None; sends = responses_from (above_item image (covered_seconds held start second) second root (items_of entries)) 0 entries }
 
--- Unsealed; Undecided with the first second from the start on that is not held; NotMine; else Done. (The third case does
--- not come: where none is missing, something is held for the second.)
+-- Unsealed; Undecided with the first second from the start on that is not held; NotMine; else Done. (The third case cannot
+-- occur: if no second is missing, a root is held for this one.)
 abbrev pub respond_where : (List ℕ → List ℕ) → Roots → (start second : ℕ) → (sealed : Option (List Entry)) → (missing : Option ℕ) → (root : Option (List ℕ)) → SecondState → Turn
 respond_where image held start second None missing root s = still s Unsealed
 respond_where image held start second (Some entries) (Some missing) root s = still s (Undecided missing)
@@ -168,7 +168,7 @@ respond_where image held start second (Some entries) None (Some root) s = if is_
 unfoldable pub respond_row : (List ℕ → List ℕ) → Roots → (start second : ℕ) → SecondState → Turn
 respond_row image held start second s = respond_where image held start second s.sealed (first_missing held start second) (held second) s
 
--- the answer NotMine in words: the second is sealed and all is held to it, and its root is not the candidate or is the
+-- the condition of NotMine: the second is sealed, all seconds up to it are held, and its root is not the candidate or is the
 -- zero imprint
 pub record IsNotMine (image : List ℕ → List ℕ) (held : Roots) (start second : ℕ) (s : SecondState) : Type 0 where
   pub entries : List Entry
@@ -178,7 +178,7 @@ pub record IsNotMine (image : List ℕ → List ℕ) (held : Roots) (start secon
   pub holds : held second ≡ Some root
   pub other : (root ≢ candidate_of image entries) ⊎ (root ≡ zero_imprint)
 
--- PUBLISH: the root of the calendar to the second is the answer
+-- PUBLISH: return the root of the calendar to the second
 
 -- Undecided with the first second from the start on that is not held, else Published
 abbrev pub publish_where : (List ℕ → List ℕ) → Roots → (start p : ℕ) → (missing : Option ℕ) → Answer
@@ -188,7 +188,7 @@ publish_where image held start p None = Published (covered_root image held start
 unfoldable pub publish_answer : (List ℕ → List ℕ) → Roots → (start p : ℕ) → Answer
 publish_answer image held start p = publish_where image held start p (first_missing held start p)
 
--- RESTART: the ballot in hand and the open items are forgotten
+-- RESTART: forget the ballot in hand and the open items
 
 abbrev pub restart_row : SecondState → SecondState
 restart_row s = record s { vote = restarted s.vote; open_items = [] }

@@ -1,4 +1,4 @@
--- What a row of the step table makes of a second, and who is told.
+-- The result of a row of the step table, and the addressees of what is sent.
 use Rattle.std.specs.Prelude.{ℕ, List, [], ◌∷◌, map, Option, Some, None}
 use Rattle.ksi_synod.specs.declared.messages.SynodMessage.{SynodMessage}
 use Rattle.ksi_synod.specs.declared.messages.SynodMessage.TheVariants as message
@@ -11,7 +11,7 @@ use Rattle.ksi_corenode.specs.declared.step.Send.TheVariants as sends
 use Rattle.ksi_corenode.specs.declared.fact.What.{What}
 use Rattle.ksi_corenode.specs.SecondState.{SecondState}
 
--- the second after a row, its answer, what is stored for good, and what is sent in order
+-- the second after a row, its answer, the fact stored if any, and the messages sent, in order
 pub record Turn : Type 0 where
   pub after : SecondState
   pub answer : Answer
@@ -34,11 +34,11 @@ addressed plan second from (message.BeginBallot b d) = to_each (voters_of plan s
 addressed plan second from (message.Voted b) = sends.Synod from (message.Voted b) ∷ []
 addressed plan second from (message.Success d) = to_each (cores_below plan.cores) (message.Success d)
 
--- what goes out where a message is to be sent
+-- the messages for a message that may have to be sent
 abbrev pub told : CorePlanState → (second from : ℕ) → Option SynodMessage → List Send
 told plan second from None = []
 told plan second from (Some m) = addressed plan second from m
 
--- the vote after a row, the message that is to be sent, the answer, and what is stored
+-- the vote after a row, the message to send, the answer, and the fact to store
 abbrev pub voted_with : CorePlanState → (second from : ℕ) → SecondState → VoteState × Option SynodMessage → Answer → Option What → Turn
 voted_with plan second from s row answer fact = record { after = record s { vote = row.0 }; answer = answer; fact = fact; sends = told plan second from row.1 }

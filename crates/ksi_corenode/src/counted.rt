@@ -32,14 +32,14 @@ impl<C: Compress> Core<C> {
         counts
     }
 
-    /// How many items of a second are open: sealing it now would store so many.
+    /// How many items of a second are open: sealing it now would store this many.
     pub fn count_open(&self, second: u64) -> usize
         ensures { result ≡ length (state_of self.now second).open_items }
     {
         self.seconds().count_open(second)
     }
 
-    /// The first second from this one on that something is held or sealed for, 2^63 where there is none below.
+    /// The first second from this one on that something is held or sealed for, or 2^63 if there is none below.
     fn next_before(&self, from: u64) -> u64
         requires { from ≤ 2 ^ 63 }
         ensures behind { from ≤ result }

@@ -38,7 +38,7 @@ impl<C: Compress> Core<C> {
     }
 }
 
-/// Whether the ballot that is stored, if any, is of one of so many cores.
+/// Whether the ballot that is stored, if any, is of one of this many cores.
 fn stores_owned(cores: u8, what: &What) -> bool
     ensures { IsTrue result ↔ StoresOwned cores what.now }
 {
@@ -72,7 +72,7 @@ fn may_store(sealed: bool, vote: &Instance, what: &What) -> bool
     }
 }
 
-/// The number of a ballot, 0 where there is none.
+/// The number of a ballot, or 0 if there is none.
 fn number_of(ballot: Option<u64>) -> u64
     ensures { (number : ℕ) → ballot ≡ some_ballot number → result ≡ number }
 {

@@ -1,21 +1,23 @@
-//! A core of the calendar, as a state machine. For each second it takes items that aggregators submit, seals them, votes
-//! with the other cores on the second's root by Lamport's Synod, and answers each aggregator with the way from its item to
-//! the calendar.
+//! A core of the calendar, as a state machine. For each second it collects the items that aggregators submit, seals them, votes
+//! with the other cores on the second's root by Lamport's Synod, and sends each aggregator the path from its item to the root
+//! of the calendar.
 //!
-//! A [`Core`] takes one call at a time and answers a [`Step`]: an [`Answer`], the [`Fact`] that is to be stored, if any, and
-//! what is to be sent for the second of the call. Nothing is sent, stored or timed here. A contract sees each second of a
-//! core by `state_of`: its part in the vote, its open items and its sealed ones. The layer above may rely on this: each
-//! call's answer, sends and second are those of its row in `specs/Rows`, all other seconds are as they were, and each
-//! refusal comes exactly where its clause says. After `NoMemory` all is as it was.
+//! A [`Core`] takes one call at a time and returns a [`Step`]: an [`Answer`], the [`Fact`] to store, if any, and the messages to
+//! send for the second of the call. Nothing is sent, stored or timed here. Contracts describe each second of a core by
+//! `state_of`: its part in the vote, its open items and its sealed ones. The layer above may rely on three things. Each call's
+//! answer, messages and new second are those of its row in `specs/Rows`, and all other seconds are unchanged. Each refusal
+//! occurs exactly if its clause says so. After `NoMemory` nothing has changed.
 //!
-//! What a second keeps for good is of fixed size but for its sealed items, which stand in one list. Of the seconds from the
-//! start on that are held, up to the first that is not, these parts stand in a list, and the others in a map; the calendar
-//! grows exactly when seconds come to that list, so that `respond` and `publish` change nothing. Ballots in hand and open
-//! items stand in a map of their own, which `restart` empties. `settled` says how long the list is, and `first_not_held`
-//! looks there alone. A ballot in hand stays until a restart, also for a second that is held.
+//! The stable part of a second has a fixed size, except for its sealed items, which are in one list for all seconds. The stable
+//! parts of the settled seconds (those from the start up to the first that is not held) are in a list, and the others in a map.
+//! If nothing but its root is stored for a settled second, the list may store it as a bare root of 33 bytes. The calendar grows
+//! when the list does, so `respond` and `publish` change nothing. Ballots in hand and open items are in a map of their own,
+//! which `restart` clears; a ballot in hand stays until then, even if the second is held. `settled` returns the length of the
+//! list, and `first_not_held` looks there alone.
 //!
-//! A core is a fold of its facts: `from_facts` makes it of them, and `may_store` and `store` take them one by one. [`laws`]
-//! says that the facts of its steps are lawful, and that what comes back with them is the core after a restart.
+//! The state of a core is a fold over its facts: `from_facts` builds a core from a list of them, and `may_store` and `store`
+//! take them one by one. [`laws`] proves that the facts of a core's steps are valid, and that a core rebuilt from them is the
+//! core after a restart.
 //!
 //! ```text
 //! let mut core = Core::<Sha>::new(alloc, 0, &CorePlan::new(3, start));
@@ -43,6 +45,7 @@ mod restoring;
 mod seconds;
 mod sending;
 mod settled;
+mod settled_parts;
 mod stable;
 mod stable_parts;
 mod step;

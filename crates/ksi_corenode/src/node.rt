@@ -11,6 +11,7 @@ ghost use Rattle.ksi_corenode.specs.CoreState.{state_of, held_by, IsSame, IsChan
 ghost use Rattle.ksi_corenode.specs.Kept.{Keeps};
 ghost use Rattle.ksi_corenode.specs.Settled.{IsCalendarOf};
 ghost use Rattle.ksi_corenode.specs.ItemsLeft.{items_left};
+ghost use Rattle.ksi_corenode.specs.Bare.{is_bare};
 
 use crate::fact::{What, fact_of};
 use crate::growing::lengthen;
@@ -93,6 +94,13 @@ impl<C: Compress> Core<C> {
             Some(entries) => Some(LentItems::new(entries)),
             None => None,
         }
+    }
+
+    /// Whether a root is held for a second, and nothing else is stored for it.
+    pub fn is_bare(&self, second: u64) -> bool
+        ensures { result ≡ is_bare (state_of self.now second) }
+    {
+        self.seconds.is_bare(second)
     }
 
     /// The first second.

@@ -217,7 +217,7 @@ fn put_response<C: Compress>(
     }
 }
 
-/// What stands above item `k`.
+/// The path above item `k`.
 fn above<C: Compress>(
     alloc: Global,
     entries: &[Entry],

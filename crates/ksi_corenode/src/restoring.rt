@@ -97,7 +97,7 @@ fn store_in(vote: &mut Instance, what: &What)
     }
 }
 
-/// The imprint of the tree of the items, the zero imprint where there are none.
+/// The imprint of the tree of the items, or the zero imprint if there are none.
 fn candidate_of<C: Compress>(alloc: Global, items: &[Entry]) -> Result<Imprint, NoMemory>
     requires { IsRound (items_of items.now) }
     ensures { IfOk result (λ candidate. candidate ≡ candidate_of C.image items.now) }

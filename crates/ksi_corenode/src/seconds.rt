@@ -13,6 +13,7 @@ ghost use Rattle.ksi_corenode.specs.Settled.{IsSettled};
 ghost use Rattle.ksi_corenode.specs.Kept.{Keeps};
 ghost use Rattle.ksi_corenode.specs.Next.{IsNext, held_or_sealed};
 ghost use Rattle.ksi_corenode.specs.Restored.{sealed_second};
+ghost use Rattle.ksi_corenode.specs.Bare.{is_bare};
 ghost use Rattle.ksi_corenode.specs.CoreState.{state_of, stable_at, held_by, IsSame, IsChange};
 
 use crate::fact::{SealedItems, What};
@@ -49,7 +50,7 @@ impl<C: Compress> Model for Seconds<C> {
 
     ghost Value = { CoreState };
 
-    ghost view = { λ s. record { me = s.me; plan = s.plan; start = s.stable_parts.start; settled = s.stable_parts.settled; unsettled = s.stable_parts.unsettled; items = s.items.items; volatile_parts = s.volatile_parts.entries } };
+    ghost view = { λ s. record { me = s.me; plan = s.plan; start = s.stable_parts.start; bare = s.stable_parts.bare; settled = s.stable_parts.settled; unsettled = s.stable_parts.unsettled; items = s.items.items; volatile_parts = s.volatile_parts.entries } };
 
     ghost invariant = { λ s. (s.me < s.plan.cores) × (s.plan.cores ≤ 9)
         × ((t : ℕ) → IsSealedWell C.image s.items.items (part_of s.stable_parts t)) };
@@ -138,6 +139,14 @@ impl<C: Compress> Seconds<C> {
         ensures { result ≡ is_some (state_of self.now second).sealed }
     {
         self.part(second).vote.candidate().is_some()
+    }
+
+    /// Whether a root is held, and nothing else is stored.
+    #[tactic(auto, unfolding(crate::specs::CoreState::state_of, crate::specs::Stored::second_of), using(crate::proofs::Changes::is_sealed))]
+    pub fn is_bare(&self, second: u64) -> bool
+        ensures { result ≡ is_bare (state_of self.now second) }
+    {
+        !self.is_sealed(second) && self.part(second).vote.is_bare()
     }
 
     /// The sealed items with their origins, none where the second is not sealed.
@@ -250,7 +259,7 @@ impl<C: Compress> Seconds<C> {
     #[tactic(auto, unfolding(crate::specs::CoreState::state_of))]
     pub fn write_vote(&mut self, second: u64, vote: &Instance)
         requires keeps { Keeps (state_of self.old second).vote vote.now }
-        requires place { IsTrue (has_place self.old.start self.old.settled self.old.unsettled second) }
+        requires place { IsTrue (has_place self.old.start self.old.bare self.old.settled self.old.unsettled second) }
         requires room { IsSome vote.now.hand → IsSome (lookup (is_at (nat_cmp second)) self.old.volatile_parts) }
         ensures { IsChange self.old self.new second (record (state_of self.old second) { vote = vote.now }) }
     {
@@ -330,7 +339,7 @@ impl<C: Compress> Seconds<C> {
     #[tactic(auto, unfolding(crate::specs::CoreState::state_of))]
     pub fn make_room(&mut self, second: u64, volatile: bool) -> Result<(), NoMemory>
         ensures same { IsSame self.old self.new }
-        ensures place { OnOk result (IsTrue (has_place self.new.start self.new.settled self.new.unsettled second)) }
+        ensures place { OnOk result (IsTrue (has_place self.new.start self.new.bare self.new.settled self.new.unsettled second)) }
         ensures there { OnOk result (IsTrue volatile → IsSome (lookup (is_at (nat_cmp second)) self.new.volatile_parts)) }
     {
         self.stable_parts.make_place(second)?;
@@ -344,7 +353,7 @@ impl<C: Compress> Seconds<C> {
     #[tactic(auto, unfolding(crate::specs::CoreState::state_of, crate::specs::Stored::volatile_at))]
     fn make_volatile(&mut self, second: u64) -> Result<(), NoMemory>
         ensures same { IsSame self.old self.new }
-        ensures places { (t : ℕ) → has_place self.new.start self.new.settled self.new.unsettled t ≡ has_place self.old.start self.old.settled self.old.unsettled t }
+        ensures places { (t : ℕ) → has_place self.new.start self.new.bare self.new.settled self.new.unsettled t ≡ has_place self.old.start self.old.bare self.old.settled self.old.unsettled t }
         ensures there { OnOk result (IsSome (lookup (is_at (nat_cmp second)) self.new.volatile_parts)) }
     {
         if self.volatile_parts.contains_key(&second) {
@@ -367,7 +376,7 @@ fn part_from<L: Ledger>(stable_parts: &StableParts, second: u64, blank: Blank) -
     stable_parts.get(second, &mut steps)
 }
 
-/// So many of the items, from the first on.
+/// This many of the items, from the first on.
 fn items_at(items: &[Entry], first: usize, count: usize) -> &[Entry]
     requires { first + count ≤ length items.now }
     ensures { result.now ≡ items_from items.now first count }

@@ -8,7 +8,7 @@ use crate::step::Send;
 use ksi_synod::laws::voters_are_cores;
 use ksi_synod::{CorePlan, SynodMessage, Voters};
 
-/// The message to each of so many cores, where there is room.
+/// Appends one copy of the message for each of the `cores` cores, in order.
 pub(crate) fn push_all(cores: u8, message: &SynodMessage, sends: &mut Vec<Send>)
     requires room { vec_len sends.old + cores ≤ vec_capacity sends.old }
     ensures { sends.new.items ≡ sends.old.items ++ to_each (cores_below cores) message.now }
@@ -18,7 +18,7 @@ pub(crate) fn push_all(cores: u8, message: &SynodMessage, sends: &mut Vec<Send>)
     }
 }
 
-/// The message to each of the voters, which are of so many cores, where there is room.
+/// Appends one copy of the message for each voter, in order. All voters are among the first `cores` cores.
 fn push_voters(cores: u8, voters: &Voters, message: &SynodMessage, sends: &mut Vec<Send>)
     requires cores { AreVoters cores voters.now }
     requires room { vec_len sends.old + cores ≤ vec_capacity sends.old }

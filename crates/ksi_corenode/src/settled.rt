@@ -42,7 +42,7 @@ impl<C: Compress> Core<C> {
         }
     }
 
-    /// The first second from this one on that something is held or sealed for, none where there is none.
+    /// The first second, from this one on, for which something is held or sealed, or none.
     pub fn next_second(&self, from: u64) -> Option<u64>
         ensures next { IfSome result (IsNext (λ t. held_or_sealed (state_of self.now t)) from) }
         ensures none { IsNone result ↔ ((t : ℕ) → from ≤ t → held_or_sealed (state_of self.now t) ≡ false) }

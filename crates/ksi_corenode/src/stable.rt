@@ -1,10 +1,11 @@
-ghost use Rattle.std.specs.Prelude.{◌≡◌};
-ghost use Rattle.ksi_corenode.specs.Stored.{fresh_part};
+ghost use Rattle.std.specs.Prelude.{◌≡◌, IfSome};
+ghost use Rattle.ksi_corenode.specs.Stored.{fresh_part, bare_part};
 ghost use Rattle.ksi_corenode.specs.Next.{part_held_or_sealed};
 
+use ksi_imprint::Imprint;
 use ksi_synod::Stable;
 
-/// The stable part of a second, of fixed size: that of the vote, and where its sealed items stand among all.
+/// The stable part of a second, of fixed size: that of the vote, and the range of its sealed items in the list of all.
 #[derive(Clone, Copy)]
 pub(crate) struct StablePart {
     pub vote: Stable,
@@ -13,7 +14,7 @@ pub(crate) struct StablePart {
 }
 
 impl StablePart {
-    /// The part before anything came.
+    /// The part before any event.
     pub fn new() -> Self
         ensures { result ≡ fresh_part }
     {
@@ -24,7 +25,28 @@ impl StablePart {
         }
     }
 
-    /// Whether something is held, or the second is sealed.
+    /// The part of a bare root: nothing else is stored.
+    pub fn bare(root: Imprint) -> Self
+        ensures { result ≡ bare_part root }
+    {
+        StablePart {
+            vote: Stable::bare(root),
+            first: 0,
+            count: 0,
+        }
+    }
+
+    /// The root, if nothing else is stored.
+    pub fn bare_root(&self) -> Option<Imprint>
+        ensures { IfSome result (λ root. self.now ≡ bare_part root) }
+    {
+        if self.first != 0 || self.count != 0 {
+            return None;
+        }
+        self.vote.bare_root()
+    }
+
+    /// Whether a root is held or items are sealed.
     pub fn is_held_or_sealed(&self) -> bool
         ensures { result ≡ part_held_or_sealed self.now }
     {

@@ -1,5 +1,5 @@
-//! The stable parts of all seconds. From the start on, those of the seconds that are held stand in a list, up to the first
-//! that is not held; the others stand in a map.
+//! The stable parts of all seconds. Those of the settled seconds, from the start up to the first that is not held, are in a
+//! list; the others are in a map.
 ghost use Rattle.std.specs.Prelude.{◌≡◌, ◌==◌, ℕ, List, ◌+◌, ◌<◌, ◌≤◌, ◌^◌, ◌∷◌, ◌++◌, [], if◌then◌else◌, length, false, IsTrue, IsSome, IsNone, IfSome, OnOk, IfOk, Some, None, vec_len, vec_capacity};
 ghost use Rattle.std.specs.Ordering.{nat_cmp};
 ghost use Rattle.std.specs.BTreeMap.{is_at, btree_map_len};
@@ -8,6 +8,7 @@ ghost use Rattle.ksi_corenode.specs.Stored.{fresh_part, unsettled_at, part_at, h
 ghost use Rattle.ksi_corenode.specs.Settled.{IsSettled};
 ghost use Rattle.ksi_corenode.specs.Next.{IsNext, part_held_or_sealed};
 
+use crate::settled_parts::SettledParts;
 use crate::stable::StablePart;
 use ksi_imprint::NoMemory;
 use ksi_split::Steps;
@@ -16,30 +17,30 @@ use std::collections::BTreeMap;
 use std::marker::Model;
 use std::sync::ledger::Ledger;
 
-/// The stable parts. A contract sees the start, how many seconds are settled, and the part of each second.
+/// The stable parts. Contracts describe the start, how many seconds are settled, and the part of each second.
 #[derive(Drop)]
 pub(crate) struct StableParts {
     start: u64,
-    settled: Vec<StablePart>,
+    settled: SettledParts,
     unsettled: BTreeMap<u64, StablePart>,
 }
 
 impl Model for StableParts {
-    ghost use Rattle.std.specs.Prelude.{◌+◌, ◌≤◌, length, vec_len, vec_capacity};
+    ghost use Rattle.std.specs.Prelude.{◌≤◌, length};
     ghost use Rattle.std.specs.BTreeMap.{btree_map_len};
     ghost use Rattle.ksi_corenode.specs.Stored.{StablePartsState, part_at};
     ghost use Rattle.ksi_corenode.specs.Settled.{IsSettled};
 
     ghost Value = { StablePartsState };
 
-    ghost view = { λ s. record { start = s.start; settled = s.settled.items; unsettled = s.unsettled.entries } };
+    ghost view = { λ s. record { start = s.start; bare = s.settled.bare; settled = s.settled.parts; unsettled = s.unsettled.entries } };
 
-    ghost invariant = { λ s. IsSettled (λ t. (part_at s.start s.settled.items s.unsettled.entries t).vote.held) s.start (length s.settled.items)
-        × (vec_len s.settled + btree_map_len s.unsettled ≤ vec_capacity s.settled) };
+    ghost invariant = { λ s. IsSettled (λ t. (part_at s.start s.settled.parts s.unsettled.entries t).vote.held) s.start (length s.settled.parts)
+        × (btree_map_len s.unsettled ≤ s.settled.room) };
 }
 
 impl StableParts {
-    /// The parts before anything came.
+    /// The parts before any event.
     #[tactic(auto, unfolding(crate::specs::Stored::part_at))]
     pub fn new(alloc: Global, start: u64) -> Self
         ensures start { result.start ≡ start }
@@ -48,7 +49,7 @@ impl StableParts {
     {
         StableParts {
             start,
-            settled: Vec::new(alloc),
+            settled: SettledParts::new(alloc),
             unsettled: BTreeMap::new(alloc),
         }
     }
@@ -60,7 +61,7 @@ impl StableParts {
         self.start
     }
 
-    /// How many seconds from the start on are settled: one look at the list's length, which is a step.
+    /// The number of settled seconds, which is the length of the list: one step.
     pub fn settled<L: Ledger>(&self, steps: &mut Steps<L>) -> u64
         ensures settled { IsSettled (λ t. (part_of self.now t).vote.held) self.now.start result }
         ensures step { steps.new ≡ steps.old + 1 }
@@ -69,7 +70,7 @@ impl StableParts {
         self.settled.len() as u64
     }
 
-    /// The part of a second: one look at an entry of the list or of the map, which is a step.
+    /// The part of a second, from the list or the map: one step.
     #[tactic(auto, unfolding(crate::specs::Stored::part_at))]
     pub fn get<L: Ledger>(&self, t: u64, steps: &mut Steps<L>) -> StablePart
         ensures part { result ≡ part_of self.now t }
@@ -77,7 +78,7 @@ impl StableParts {
     {
         steps.tick();
         if self.start <= t && t - self.start < self.settled.len() as u64 {
-            return self.settled[(t - self.start) as usize];
+            return self.settled.get((t - self.start) as usize);
         }
         match self.unsettled.get(&t) {
             Some(part) => *part,
@@ -85,8 +86,7 @@ impl StableParts {
         }
     }
 
-    /// The first second from this one on that something is held or sealed for. A settled one is found without a look at the
-    /// others.
+    /// The first second from this one on with a held root or sealed items. A settled one is found without looking at others.
     pub fn next_from(&self, from: u64) -> Option<u64>
         ensures next { IfSome result (IsNext (λ t. part_held_or_sealed (part_of self.now t)) from) }
         ensures none { IsNone result → (t : ℕ) → from ≤ t → part_held_or_sealed (part_of self.now t) ≡ false }
@@ -97,7 +97,7 @@ impl StableParts {
         self.next_beside(from)
     }
 
-    /// The same of a second that is not settled: the next one is the first settled one, or one of the others.
+    /// The same for a second that is not settled: the next one is the first settled one, or one of the others.
     fn next_beside(&self, from: u64) -> Option<u64>
         ensures next { IfSome result (IsNext (λ t. part_held_or_sealed (part_of self.now t)) from) }
         ensures none { IsNone result → (t : ℕ) → from ≤ t → part_held_or_sealed (part_of self.now t) ≡ false }
@@ -113,18 +113,18 @@ impl StableParts {
         }
     }
 
-    /// Makes a place for the part of a second, and room for it among the settled ones.
+    /// Makes a place for the part of a second, and reserves memory for it among the settled ones.
     ///
     /// # Errors
-    /// `NoMemory`: all is as it was.
+    /// `NoMemory`: nothing has changed.
     #[tactic(auto, unfolding(crate::specs::Stored::part_at, crate::specs::Stored::has_place))]
     pub fn make_place(&mut self, t: u64) -> Result<(), NoMemory>
         ensures start { self.new.start ≡ self.old.start }
         ensures at { (u : ℕ) → part_of self.new u ≡ part_of self.old u }
-        ensures there { OnOk result (IsTrue (has_place self.new.start self.new.settled self.new.unsettled t)) }
+        ensures there { OnOk result (IsTrue (has_place self.new.start self.new.bare self.new.settled self.new.unsettled t)) }
     {
         if self.start <= t && t - self.start < self.settled.len() as u64 {
-            return Ok(());
+            return self.make_settled_place(t);
         }
         if self.unsettled.contains_key(&t) {
             return Ok(());
@@ -134,9 +134,27 @@ impl StableParts {
         Ok(())
     }
 
-    /// Puts the part of a second in its place. What was held is held still.
+    /// Makes a place for the part of a settled second: if it is one of the bare roots, all parts are stored in full.
+    ///
+    /// # Errors
+    /// `NoMemory`: nothing has changed.
+    #[tactic(auto, unfolding(crate::specs::Stored::part_at, crate::specs::Stored::has_place))]
+    fn make_settled_place(&mut self, t: u64) -> Result<(), NoMemory>
+        requires from { self.old.start ≤ t }
+        requires below { t < self.old.start + length self.old.settled }
+        ensures start { self.new.start ≡ self.old.start }
+        ensures at { (u : ℕ) → part_of self.new u ≡ part_of self.old u }
+        ensures there { OnOk result (IsTrue (has_place self.new.start self.new.bare self.new.settled self.new.unsettled t)) }
+    {
+        if t - self.start < self.settled.bare() as u64 {
+            self.settled.spread()?;
+        }
+        Ok(())
+    }
+
+    /// Replaces the part of a second. A root that was held is still held.
     pub fn put(&mut self, t: u64, part: &StablePart)
-        requires place { IsTrue (has_place self.old.start self.old.settled self.old.unsettled t) }
+        requires place { IsTrue (has_place self.old.start self.old.bare self.old.settled self.old.unsettled t) }
         requires held { (root : List ℕ) → (part_of self.old t).vote.held ≡ Some root → part.now.vote.held ≡ Some root }
         ensures start { self.new.start ≡ self.old.start }
         ensures at { (u : ℕ) → part_of self.new u ≡ (if u == t then part.now else part_of self.old u) }
@@ -146,7 +164,7 @@ impl StableParts {
     }
 }
 
-/// The first second from this one on that something is held or sealed for, of those in the map.
+/// The first second in the map from this one on with a held root or sealed items.
 fn next_unsettled(unsettled: &BTreeMap<u64, StablePart>, from: u64) -> Option<u64>
     ensures next { IfSome result (IsNext (λ t. part_held_or_sealed (unsettled_at unsettled.now.entries t)) from) }
     ensures none { IsNone result → (t : ℕ) → from ≤ t → part_held_or_sealed (unsettled_at unsettled.now.entries t) ≡ false }
@@ -159,23 +177,23 @@ fn next_unsettled(unsettled: &BTreeMap<u64, StablePart>, from: u64) -> Option<u6
     None
 }
 
-/// Writes the part of a second where it stands.
+/// Writes the part of a second to the list or the map.
 #[tactic(auto, unfolding(crate::specs::Stored::part_at, crate::specs::Stored::has_place))]
 fn write(
     start: u64,
-    settled: &mut Vec<StablePart>,
+    settled: &mut SettledParts,
     unsettled: &mut BTreeMap<u64, StablePart>,
     t: u64,
     part: &StablePart,
 )
-    requires place { IsTrue (has_place start settled.old.items unsettled.old.entries t) }
-    ensures at { (u : ℕ) → part_at start settled.new.items unsettled.new.entries u ≡ (if u == t then part.now else part_at start settled.old.items unsettled.old.entries u) }
-    ensures settled { vec_len settled.new ≡ vec_len settled.old }
-    ensures capacity { vec_capacity settled.new ≡ vec_capacity settled.old }
+    requires place { IsTrue (has_place start settled.old.bare settled.old.parts unsettled.old.entries t) }
+    ensures at { (u : ℕ) → part_at start settled.new.parts unsettled.new.entries u ≡ (if u == t then part.now else part_at start settled.old.parts unsettled.old.entries u) }
+    ensures settled { length settled.new.parts ≡ length settled.old.parts }
+    ensures room { settled.new.room ≡ settled.old.room }
     ensures unsettled { btree_map_len unsettled.new ≡ btree_map_len unsettled.old }
 {
     if start <= t && t - start < settled.len() as u64 {
-        settled[(t - start) as usize] = *part;
+        settled.set((t - start) as usize, part);
         return;
     }
     match unsettled.get_mut(&t) {
@@ -184,20 +202,20 @@ fn write(
     }
 }
 
-/// Moves the seconds behind the settled ones to them, as far as they are held.
-fn settle(start: u64, settled: &mut Vec<StablePart>, unsettled: &mut BTreeMap<u64, StablePart>)
-    requires room { vec_len settled.old + btree_map_len unsettled.old ≤ vec_capacity settled.old }
-    requires held { (t : ℕ) → start ≤ t → t < start + length settled.old.items → IsSome (part_at start settled.old.items unsettled.old.entries t).vote.held }
-    ensures at { (u : ℕ) → part_at start settled.new.items unsettled.new.entries u ≡ part_at start settled.old.items unsettled.old.entries u }
-    ensures settled { IsSettled (λ t. (part_at start settled.new.items unsettled.new.entries t).vote.held) start (length settled.new.items) }
-    ensures room { vec_len settled.new + btree_map_len unsettled.new ≤ vec_capacity settled.new }
+/// Moves the seconds that follow the settled ones to the list, as long as they are held.
+fn settle(start: u64, settled: &mut SettledParts, unsettled: &mut BTreeMap<u64, StablePart>)
+    requires room { btree_map_len unsettled.old ≤ settled.old.room }
+    requires held { (t : ℕ) → start ≤ t → t < start + length settled.old.parts → IsSome (part_at start settled.old.parts unsettled.old.entries t).vote.held }
+    ensures at { (u : ℕ) → part_at start settled.new.parts unsettled.new.entries u ≡ part_at start settled.old.parts unsettled.old.entries u }
+    ensures settled { IsSettled (λ t. (part_at start settled.new.parts unsettled.new.entries t).vote.held) start (length settled.new.parts) }
+    ensures room { btree_map_len unsettled.new ≤ settled.new.room }
 {
     'settling: while let Some(next) = held_next(start, settled.len(), unsettled) {
         move_over(start, settled, unsettled, next);
     }
 }
 
-/// The second behind so many settled ones, where it is held.
+/// The second after this many settled ones, if it is held.
 fn held_next(start: u64, settled: usize, unsettled: &BTreeMap<u64, StablePart>) -> Option<u64>
     ensures next { IfSome result (λ next. next ≡ start + settled) }
     ensures there { IfSome result (λ next. IsSome (lookup (is_at (nat_cmp next)) unsettled.now.entries)) }
@@ -211,24 +229,24 @@ fn held_next(start: u64, settled: usize, unsettled: &BTreeMap<u64, StablePart>) 
     }
 }
 
-/// Moves the second behind the settled ones to them.
+/// Moves the next second to the list of settled ones.
 #[tactic(auto, unfolding(crate::specs::Stored::part_at))]
 fn move_over(
     start: u64,
-    settled: &mut Vec<StablePart>,
+    settled: &mut SettledParts,
     unsettled: &mut BTreeMap<u64, StablePart>,
     next: u64,
 )
-    requires next { next ≡ start + length settled.old.items }
+    requires next { next ≡ start + length settled.old.parts }
     requires there { IsSome (lookup (is_at (nat_cmp next)) unsettled.old.entries) }
-    requires room { vec_len settled.old + btree_map_len unsettled.old ≤ vec_capacity settled.old }
-    ensures at { (u : ℕ) → part_at start settled.new.items unsettled.new.entries u ≡ part_at start settled.old.items unsettled.old.entries u }
-    ensures settled { length settled.new.items ≡ length settled.old.items + 1 }
+    requires room { btree_map_len unsettled.old ≤ settled.old.room }
+    ensures at { (u : ℕ) → part_at start settled.new.parts unsettled.new.entries u ≡ part_at start settled.old.parts unsettled.old.entries u }
+    ensures settled { length settled.new.parts ≡ length settled.old.parts + 1 }
     ensures unsettled { btree_map_len unsettled.new + 1 ≡ btree_map_len unsettled.old }
-    ensures room { vec_len settled.new + btree_map_len unsettled.new ≤ vec_capacity settled.new }
+    ensures room { btree_map_len unsettled.new ≤ settled.new.room }
 {
     match unsettled.remove(&next) {
-        Some(part) => settled.push_reserved(part),
+        Some(part) => settled.push(&part),
         None => unreachable!(),
     }
 }

@@ -10,7 +10,7 @@ use std::alloc::Global;
 pub enum Send {
     /// A message of the vote to this core.
     Synod(u8, SynodMessage),
-    /// To this aggregator, what stands above its item.
+    /// To this aggregator, the path above its item.
     Response(u32, Above),
 }
 

@@ -81,7 +81,7 @@ impl<C: Compress> VolatilePart<C> {
         }
     }
 
-    /// The imprint of the open items' tree, the zero imprint where there are none.
+    /// The imprint of the open items' tree, or the zero imprint if there are none.
     pub fn candidate(&self) -> Imprint
         ensures { result ≡ candidate_of C.image self.now.open_items }
     {

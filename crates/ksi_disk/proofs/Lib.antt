@@ -6,3 +6,4 @@ pub mod Appended
 pub mod Steps
 pub mod Spelled
 pub mod Endings
+pub mod Cutting

@@ -1,4 +1,4 @@
--- What a disk in memory gives beside what a crash may leave of it.
+-- What a disk in memory returns, compared with what a crash may leave of it.
 use Rattle.std.specs.Prelude.{◌≡◌, ℕ, ◌+◌, ◌-◌, ◌≤◌, max, nat_le, Bool, true, false, if◌then◌else◌, List, [], ◌∷◌, ◌++◌, length, take, drop, refl}
 use Rattle.std.proofs.Common.{inl, inr, ◌∙◌, ap, arith, append_assoc, length-append, length-drop, length-take}
 use Rattle.std.proofs.Math.Seq.{drop-append-add}
@@ -16,7 +16,7 @@ pub length-laid_over : (bytes : List ℕ) (at : ℕ) (piece : List ℕ) → at �
 length-laid_over bytes at piece within =
     omega (arith, length-append (take at bytes ++ piece) (drop (at + length piece) bytes), length-append (take at bytes) piece, length-take-le at bytes within, length-drop (at + length piece) bytes)
 
--- what is laid over a beginning of a written range is torn
+-- bytes that overwrite only a prefix of a written range make a torn write
 pub torn_laid : (at n : ℕ) (bytes piece : List ℕ) → at ≤ length bytes → length piece ≤ n → Torn at n bytes (laid_over bytes at piece)
 torn_laid at n bytes piece within short =
     let front = take at bytes ++ piece in
@@ -41,7 +41,7 @@ torn_reached at n bytes piece short = by_test (nat_le at (length bytes)) (λ hol
     by_test true within = torn_laid at n bytes piece (within refl) short
     by_test false within = torn_not at n bytes
 
--- what a read gives is one of the images
+-- the bytes that a read returns are one of the images
 pub content_is_image : (start : List ℕ) (deeds : List Deed) → IsImage start deeds (content_after start deeds)
 content_is_image start [] = refl
 content_is_image start (wrote at piece true ∷ earlier) = (content_after start earlier, content_is_image start earlier, torn_reached at (length piece) (content_after start earlier) piece (omega arith))
@@ -63,7 +63,7 @@ short_left Whole piece = omega arith
 short_left (Front count) piece = omega (arith, length-take count piece)
 short_left (Filled byte) piece = omega (arith, length-replicate (length piece) byte)
 
--- whatever becomes of the writes, it is an image
+-- whatever happens to the writes, the result is an image
 pub image_by_fate : (fate : Fate) (start : List ℕ) (deeds : List Deed) → IsImage start deeds (image_by fate start deeds)
 image_by_fate fate start [] = refl
 image_by_fate fate start (wrote at piece succeeded ∷ earlier) =

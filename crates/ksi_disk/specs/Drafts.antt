@@ -1,7 +1,7 @@
--- A record that is to be appended.
+-- A record to be appended.
 use Rattle.std.specs.Prelude.{ℕ, List}
 
--- its content so far, and for how many bytes more it has room
+-- its content so far, and how many more bytes fit
 pub record Draft : Type 0 where
   pub content : List ℕ
   pub room : ℕ

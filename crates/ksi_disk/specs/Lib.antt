@@ -12,3 +12,4 @@ pub mod Restarts
 pub mod Restarting
 pub mod Noted
 pub mod Host
+pub mod Cuts

@@ -1,4 +1,4 @@
--- That a crash is a restart, for any node that keeps its facts in a file. An aggregator with its file is one.
+-- A crash is a restart, for any node that keeps its facts in a file, as an aggregator does.
 use Rattle.std.specs.Prelude.{◌≡◌, ◌⊎◌, List, [], ◌∷◌, ◌++◌, Option, refl}
 use Rattle.std.proofs.Common.{sym, subst, inl, inr}
 use Rattle.ksi_disk.specs.Restarts.{WithOrWithout, Deed, Took, CutOff, Opened, Said, Happened, Restarted, SaysOf, IsNode, IsDeed, Runs, state_after, HasHistory}
@@ -20,14 +20,14 @@ module _ {State Node Event Fact : Type 0}
   after_both s (Happened event ∷ one) others = after_both (row s event) one others
   after_both s (Restarted ∷ one) others = after_both (restart s) one others
 
-  -- one crash, in an event: the node that is opened is as after a restart, with the event or without it
+  -- a crash during an event: the node that is opened is as after a restart, with or without the event
   pub crash_is_a_restart : (facts left : List Fact) (old new : Node) (s : State) (event : Event) → Keeps old s → Has facts s → May old event
       → WithOrWithout facts (stores old event) left → Made left new → Keeps new (restart s) ⊎ Keeps new (restart (row s event))
   crash_is_a_restart facts left old new s event keeps has may (inl without) made = inl (is.comes_back left new s (subst (λ (l : List Fact). Has l s) (sym without) has) made)
   crash_is_a_restart facts left old new s event keeps has may (inr with) made =
       inr (is.comes_back left new (row s event) (subst (λ (l : List Fact). Has l (row s event)) (sym with) (is.goes_on facts old s event keeps has may)) made)
 
-  -- what one deed makes, as a history says it
+  -- the effect of one operation, as a history states it
   one_deed : (deed : Deed Event) (facts after : List Fact) (old new : Node) (s : State) → Keeps old s → Has facts s
       → IsDeed row restart Keeps Has May Takes stores Made deed old facts new after
       → (said : List (Said Event)) × SaysOf deed said × Keeps new (After s said) × Has after (After s said)
@@ -46,7 +46,7 @@ module _ {State Node Event Fact : Type 0}
       let here : Has after s = subst (λ (l : List Fact). Has l s) (sym it.0) has in
       (Restarted ∷ [], refl, is.comes_back after new s here it.1, is.stays after s here)
 
-  -- a list of deeds
+  -- a list of operations
   pub crashes_are_restarts : (deeds : List (Deed Event)) (facts after : List Fact) (old new : Node) (s : State) → Keeps old s → Has facts s
       → Runs row restart Keeps Has May Takes stores Made deeds old facts new after → History deeds s new after
   crashes_are_restarts [] facts after old new s keeps has runs = record {

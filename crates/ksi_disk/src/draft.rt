@@ -26,7 +26,7 @@ impl Model for Record {
 }
 
 impl Record {
-    /// No content yet, and room for so many bytes.
+    /// No content yet, and room for this many bytes.
     pub fn with_room(alloc: Global, room: u32) -> Result<Self, NoMemory>
         ensures { IfOk result (λ draft. draft ≡ record { content = []; room = room }) }
     {
@@ -52,7 +52,7 @@ impl Record {
         self.room -= piece.len();
     }
 
-    /// What stands behind the gate of the record: its length, its content, and a closed gate.
+    /// The part after the gate of the record: its length, its content, and a closed gate.
     pub(crate) fn into_text(self) -> Vec<u8>
         requires { length self.content < 2 ^ 32 }
         ensures { result.items ≡ behind_gate self.content }

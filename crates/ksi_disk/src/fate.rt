@@ -5,7 +5,7 @@ pub enum Fate {
     Lost,
     /// They are left whole.
     Whole,
-    /// So many bytes at the beginning of each piece are left.
+    /// This many bytes at the beginning of each piece are left.
     Front(usize),
     /// Each byte of them is this one.
     Filled(u8),

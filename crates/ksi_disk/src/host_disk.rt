@@ -48,11 +48,11 @@ impl Model for HostDisk {
 
 impl HostDisk {
     /// The file of this name in a folder. It is made if it is missing, and locked, so no other process has it as a disk.
-    /// It and its folder are synced, and then it is read whole. After a failed sync of an earlier process the system's cache
-    /// may differ from the disk: whoever starts the process again has it dropped first.
+    /// It and its folder are synced, and then it is read whole. After a failed sync of an earlier process the system's
+    /// cache may differ from the disk: whoever starts the process again has it dropped first.
     ///
     /// # Errors
-    /// A call of the system failed, another process has the lock, or memory was wanting.
+    /// A call of the system failed, another process has the lock, or memory ran out.
     pub fn open(rt: &HostRuntime, folder: &str, name: &str) -> io::Result<HostDisk>
         ensures fresh { IfOk result (λ disk. disk.faults ≡ 0) }
         ensures durable { IfOk result (λ disk. Only (content_of disk) (images_of disk)) }

@@ -3,8 +3,8 @@ ghost use Rattle.std.specs.Prelude.{◌≡◌, ◌≢◌, ◌<◌, ◌+◌, ◌^
 ghost use Rattle.ksi_disk.specs.declared.ending.Ending.TheVariants.{Closed, Broken};
 ghost use Rattle.ksi_disk.specs.Gates.{behind, ends, is_whole, place_of, reading_of, records_text};
 
-/// What is read of records is what was spelled: up to a closed gate, whatever stands behind it; up to the end of the file,
-/// where a gate is missing; or up to an open gate whose record is cut off.
+/// Reading encoded records returns them: up to a closed gate, whatever follows it; up to the end of the file, if a gate
+/// is missing; or up to an open gate whose record is cut off.
 #[tactic(auto, using(crate::proofs::Spelled::file_closed, crate::proofs::Spelled::file_ended, crate::proofs::Spelled::file_cut))]
 pub fn records_are_read_again()
     ensures closed { (header : List ℕ) (records : List (List ℕ)) (gate : ℕ) (rest : List ℕ) → All (λ content. length content < 2 ^ 32) records → gate ≢ 1 → reading_of (length header) (header ++ (records_text records ++ gate ∷ rest)) ≡ behind records (ends (Closed (length header + length (records_text records)))) }

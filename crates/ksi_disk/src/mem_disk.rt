@@ -13,8 +13,9 @@ use ksi_imprint::{Bytes, NoMemory};
 use std::alloc::Global;
 use std::marker::Model;
 
-/// A disk in memory that has room for so many bytes of pieces and for so many writes and syncs, with a list of the calls that
-/// are to fail. A write that finds no room, or a write or a sync that finds no turn, fails too and does nothing.
+/// A disk in memory that has room for a number of bytes of pieces and for a number of writes and syncs, with a list of
+/// the calls that are to fail. A write that finds no room, or a write or a sync that finds no turn, fails too and does
+/// nothing.
 #[derive(Drop)]
 pub struct MemDisk {
     alloc: Global,
@@ -109,10 +110,10 @@ impl MemDisk {
         (self.room, self.turns)
     }
 
-    /// From now on the disk takes so many bytes, and so many writes and syncs.
+    /// From now on the disk takes this many bytes, and this many writes and syncs.
     ///
     /// # Errors
-    /// `NoMemory`: all is as it was.
+    /// `NoMemory`: nothing has changed.
     pub fn make_room(&mut self, room: usize, turns: usize) -> Result<(), NoMemory>
         ensures made { OnOk result (self.new ≡ with_room self.old room turns) }
         ensures unchanged { OnErr result (self.new ≡ self.old) }

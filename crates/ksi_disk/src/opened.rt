@@ -1,11 +1,10 @@
-use crate::{Disk, GateLog};
-use ksi_imprint::Bytes;
+use crate::{Disk, GateLog, Records};
 
 /// A log that was opened, and the contents of its records.
 #[derive(Drop)]
 pub struct Opened<D: Disk> {
     pub log: GateLog<D>,
-    pub records: Vec<Bytes>,
+    pub records: Records,
 }
 
 /// Why a log was not opened.
@@ -13,7 +12,7 @@ pub struct Opened<D: Disk> {
 pub enum OpenRefusal {
     /// The disk failed, and its count of faults rose.
     Failed,
-    /// Memory was wanting.
+    /// Memory ran out.
     NoMemory,
     /// The file is broken: at the place where a gate is missing, or at that of the gate of a record that is cut off.
     Broken(u64),

@@ -31,7 +31,7 @@ pub fn open_log<D: Disk>(alloc: Global, disk: D, from: u64) -> Result<Opened<D>,
     }
 }
 
-/// The same of a disk of so many bytes, all of them there for good.
+/// The same of a disk of this many bytes, all of them there for good.
 fn open_settled<D: Disk>(
     alloc: Global,
     disk: D,
@@ -65,7 +65,7 @@ fn stand<D: Disk>(
 ) -> Result<Opened<D>, (OpenRefusal, D)>
     requires durable { Only (D.content disk) (D.images disk) }
     requires len { len ≡ length (D.content disk) }
-    requires records { read.records.items ≡ (reading_of from (D.content disk)).records }
+    requires records { read.records ≡ (reading_of from (D.content disk)).records }
     requires ending { read.ending ≡ (reading_of from (D.content disk)).ending }
     ensures opens { OpensAs D.content D.images from (D.content disk) result }
     ensures same { disk_after result ≡ disk }

@@ -38,7 +38,7 @@ pub(crate) fn read_length<D: Disk>(disk: &mut D, place: u64) -> Result<u32, Disk
     Ok(u32::from_be_bytes(count))
 }
 
-/// A content of so many bytes.
+/// A content of this many bytes.
 pub(crate) fn read_content<D: Disk>(
     alloc: Global,
     disk: &mut D,

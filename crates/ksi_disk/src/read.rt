@@ -6,25 +6,25 @@ ghost use Rattle.ksi_disk.specs.Reads.{IfWanting, IsStep, ReadCounts, WroteNothi
 
 use crate::front::{Front, Step};
 use crate::parts::{read_content, read_gate, read_length};
-use crate::{Disk, Ending, ReadRefusal};
+use crate::{Disk, Ending, ReadRefusal, Records};
 use ksi_imprint::{Bytes, NoMemory};
 use std::alloc::Global;
 
 const OPEN: u8 = 1;
 
-/// The records of a file behind its header, up to the first gate that is not open, and how they end there.
+/// The records of a file after its header, up to the first commit byte that is not open, and how they end there.
 #[derive(Drop)]
 pub struct LogRead {
-    pub records: Vec<Bytes>,
+    pub records: Records,
     pub ending: Ending,
 }
 
-/// Reads the records of a file of so many bytes, behind a header of a stated length. What stands behind the first gate that is
-/// not open is not looked at, and nothing is written.
+/// Reads the records of a file of a stated size, after a header of a stated length. The bytes after the first gate that
+/// is not open are not read, and nothing is written.
 ///
 /// # Errors
 ///
-/// `Failed`, and the disk's count of faults rises. `NoMemory` where memory was wanting: only where the file has a record.
+/// `Failed`, and the disk's count of faults rises. `NoMemory` if memory ran out: only if the file has a record.
 pub fn read_log<D: Disk>(
     alloc: Global,
     disk: &mut D,
@@ -33,7 +33,7 @@ pub fn read_log<D: Disk>(
 ) -> Result<LogRead, ReadRefusal>
     requires len { len ≡ length (D.content disk.old) }
     requires from { from ≤ len }
-    ensures records { IfOk result (λ read. read.records.items ≡ (reading_of from (D.content disk.old)).records) }
+    ensures records { IfOk result (λ read. read.records ≡ (reading_of from (D.content disk.old)).records) }
     ensures ending { IfOk result (λ read. read.ending ≡ (reading_of from (D.content disk.old)).ending) }
     ensures stays { OnOk result (D.content disk.new ≡ D.content disk.old) }
     ensures nothing { WroteNothing D.images D.moment D.images_since D.meter disk.old disk.new }
@@ -41,7 +41,7 @@ pub fn read_log<D: Disk>(
     ensures sure { Affords 0 0 (D.meter disk.old) → IsErrOf result ReadRefusal.Failed → ⊥ }
     ensures wanting { IfWanting result (0 < length (reading_of from (D.content disk.old)).records) }
 {
-    let mut records = Vec::new(alloc);
+    let mut records = Records::new(alloc);
     let mut place = from;
     'reading: loop {
         match read_step(alloc, disk, place, len, &mut records)? {
@@ -57,11 +57,11 @@ fn read_step<D: Disk>(
     disk: &mut D,
     place: u64,
     len: u64,
-    records: &mut Vec<Bytes>,
+    records: &mut Records,
 ) -> Result<Step, ReadRefusal>
     requires len { len ≡ length (D.content disk.old) }
     requires place { place ≤ len }
-    ensures step { IfOk result (λ step. (D.content disk.new ≡ D.content disk.old) × IsStep (D.content disk.old) place records.old.items records.new.items step) }
+    ensures step { IfOk result (λ step. (D.content disk.new ≡ D.content disk.old) × IsStep (D.content disk.old) place records.old records.new step) }
     ensures nothing { WroteNothing D.images D.moment D.images_since D.meter disk.old disk.new }
     ensures counted { ReadCounts (D.faults disk.old) (D.faults disk.new) result }
     ensures sure { Affords 0 0 (D.meter disk.old) → IsErrOf result ReadRefusal.Failed → ⊥ }
@@ -78,15 +78,15 @@ fn read_step<D: Disk>(
     }
 }
 
-/// Puts a record behind the others.
-fn keep(records: &mut Vec<Bytes>, content: Bytes) -> Result<(), NoMemory>
-    ensures { OnOk result (records.new.items ≡ records.old.items ++ content ∷ []) }
+/// Appends a record.
+fn keep(records: &mut Records, content: Bytes) -> Result<(), NoMemory>
+    ensures { OnOk result (records.new ≡ records.old ++ content ∷ []) }
 {
-    records.push(content)?;
+    records.push(content.as_slice())?;
     Ok(())
 }
 
-/// What stands at a place.
+/// The entry at a place.
 fn read_front<D: Disk>(
     alloc: Global,
     disk: &mut D,
@@ -111,7 +111,7 @@ fn read_front<D: Disk>(
     read_open(alloc, disk, place + 1, len)
 }
 
-/// What stands behind an open gate.
+/// The part after an open gate.
 fn read_open<D: Disk>(
     alloc: Global,
     disk: &mut D,

@@ -6,7 +6,7 @@ use ksi_imprint::NoMemory;
 pub enum ReadRefusal {
     /// The disk failed, and its count of faults rose.
     Failed,
-    /// Memory was wanting.
+    /// Memory ran out.
     NoMemory,
 }
 

@@ -34,7 +34,7 @@ fits bytes text chain published e =
     (need_le size 65535 refusal both.0, cc)
 
 module _ (image : List ℕ → List ℕ)
-    (aggregation : (signature : Signature) (chains : Aggregated) → 0 < length signature.chains → (aggregated image signature ≡ Ok chains) ↔ IsAggregated image (plain_chains signature.chains) (first_input signature) chains.time chains.item)
+    (aggregation : (signature : Signature) (chains : Aggregated) → 0 < length signature.chains → (aggregated image signature ≡ Ok chains) ↔ IsAggregated image (plain_chains signature.chains) (first_input signature) chains.time chains.node)
     (images : (x : List ℕ) → IsImprint (image x)) (journal : Contents) (is : IsJournal image journal)
     (lengths : (t p : ℕ) → p + 1 ≤ 2 ^ 63 → length (covered_path image (root_at journal) journal.start t p) ≤ 63) where
   pub again : (renews : (bytes : List ℕ) (signature : Signature) (chain : Calendar) (published : Publishing) → AreBytes bytes → IsSignature bytes signature → IsCalendar chain → IsPublishing published → length (extended_content bytes chain published) ≤ 65535 → IsSignature (extended_text bytes chain published) (renewed signature chain published))

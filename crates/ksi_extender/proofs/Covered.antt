@@ -68,10 +68,10 @@ module _ (image : List ℕ → List ℕ) (images : (x : List ℕ) → IsImprint 
         let published = record_to image journal p in
         let read : chains_in image bytes ≡ Ok chains = sym (read_then image bytes signature ((reads bytes signature are).1 h.whole)) ∙ ap or_refused h.aggregation in
         let kept : kept_to journal chains p ≡ Ok tt =
-        passes (not (bytes_eq chains.item.imprint zero_imprint)) (nat_le journal.start t) (nat_le t p) (bytes_eq (second_leaf (root_at journal) journal.start t) chains.item.imprint) (first_missing (root_at journal) journal.start p)
-        (refusals.Refused MissedSecond) (refusals.BeforeStart t) (refusals.TooEarly t p) (refusals.RootDiffers t (second_leaf (root_at journal) journal.start t) chains.item.imprint)
-        (differs chains.item.imprint zero_imprint h.real) (le-leb journal.start t h.from) (le-leb t p h.to) ((none p).1 h.covered.each)
-        ((bytes_eq-Decides (second_leaf (root_at journal) journal.start t) chains.item.imprint).1 (leaf_kept t chains.item.imprint h.from h.root)) in
+        passes (not (bytes_eq chains.node.imprint zero_imprint)) (nat_le journal.start t) (nat_le t p) (bytes_eq (second_leaf (root_at journal) journal.start t) chains.node.imprint) (first_missing (root_at journal) journal.start p)
+        (refusals.Refused MissedSecond) (refusals.BeforeStart t) (refusals.TooEarly t p) (refusals.RootDiffers t (second_leaf (root_at journal) journal.start t) chains.node.imprint)
+        (differs chains.node.imprint zero_imprint h.real) (le-leb journal.start t h.from) (le-leb t p h.to) ((none p).1 h.covered.each)
+        ((bytes_eq-Decides (second_leaf (root_at journal) journal.start t) chains.node.imprint).1 (leaf_kept t chains.node.imprint h.from h.root)) in
         let size = small bytes signature chain p (covered_root image (root_at journal) journal.start p) are h.whole (chain_kept t p h.to h.covered) (root_is IsImprint zero_is journal (imprint_roots image journal.seconds is.seconds) image images p) in
         let fits : nat_le (length (extended_content bytes chain published)) 65535 ≡ true = le-leb (length (extended_content bytes chain published)) 65535 (omega (arith, size, h.short)) in
         ap (λ (r : Result Aggregated ExtendRefusal). r >>= λ chains. kept_to journal chains p >> fitting bytes (chain_to image journal chains.time p) (record_to image journal p)) read

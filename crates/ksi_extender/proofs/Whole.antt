@@ -37,8 +37,8 @@ or_refused_ok (Err refusal) chains e = absurd cc
 same_chains : (a b : Aggregated) → (let r : Result Aggregated Refusal = Ok a in r) ≡ Ok b → a ≡ b
 same_chains a b e = cc
 
-some_chains : (image : List ℕ → List ℕ) (list : List Aggregation) (chains : Aggregated) → chains_checked image (plain_chains list) ≡ Ok chains → chains.item.imprint ≢ zero_imprint → 0 < length list
-some_chains image [] chains e some = absurd (let is : record { time = 0; item = at_level_zero zero_imprint } ≡ chains = same_chains _ chains e in some (sym (ap (λ (a : Aggregated). a.item.imprint) is)))
+some_chains : (image : List ℕ → List ℕ) (list : List Aggregation) (chains : Aggregated) → chains_checked image (plain_chains list) ≡ Ok chains → chains.node.imprint ≢ zero_imprint → 0 < length list
+some_chains image [] chains e some = absurd (let is : record { time = 0; node = at_level_zero zero_imprint } ≡ chains = same_chains _ chains e in some (sym (ap (λ (a : Aggregated). a.node.imprint) is)))
 some_chains image (chain ∷ list) chains e some = omega arith
 
 timed : (chains : List PlainChain) (t : ℕ) → 0 < length chains → AllByRecursion (λ chain. chain.time ≡ t) chains → (first_chain chains).time ≡ t
@@ -67,17 +67,17 @@ passed image journal bytes p text signature read e =
     }
 
 module _ (image : List ℕ → List ℕ)
-    (aggregation : (signature : Signature) (chains : Aggregated) → 0 < length signature.chains → (aggregated image signature ≡ Ok chains) ↔ IsAggregated image (plain_chains signature.chains) (first_input signature) chains.time chains.item) where
-  pub is_aggregated : (signature : Signature) (chains : Aggregated) → aggregated image signature ≡ Ok chains → chains.item.imprint ≢ zero_imprint → IsAggregated image (plain_chains signature.chains) (first_input signature) chains.time chains.item
+    (aggregation : (signature : Signature) (chains : Aggregated) → 0 < length signature.chains → (aggregated image signature ≡ Ok chains) ↔ IsAggregated image (plain_chains signature.chains) (first_input signature) chains.time chains.node) where
+  pub is_aggregated : (signature : Signature) (chains : Aggregated) → aggregated image signature ≡ Ok chains → chains.node.imprint ≢ zero_imprint → IsAggregated image (plain_chains signature.chains) (first_input signature) chains.time chains.node
   is_aggregated signature chains e some = (aggregation signature chains (some_chains image signature.chains chains e some)).0 e
 
   -- the chains' time is that of the first
-  pub is_time : (signature : Signature) (chains : Aggregated) → aggregated image signature ≡ Ok chains → chains.item.imprint ≢ zero_imprint → first_time signature ≡ chains.time
+  pub is_time : (signature : Signature) (chains : Aggregated) → aggregated image signature ≡ Ok chains → chains.node.imprint ≢ zero_imprint → first_time signature ≡ chains.time
   is_time signature chains e some = let is = is_aggregated signature chains e some in timed (plain_chains signature.chains) chains.time is.some is.times
 
   -- what is read again is the signature extended
   pub read_again : (journal : Contents) (bytes text : List ℕ) (p : ℕ) (chains : Aggregated) (chain : Calendar) (published : Publishing) (signature : Signature) → signature_at bytes ≡ Ok signature → chains_in image bytes ≡ Ok chains
-      → chains.item.imprint ≢ zero_imprint → chain ≡ chain_to image journal chains.time p → published ≡ record_to image journal p → IsSignature text (renewed signature chain published) → IsSignature text (extended_signature image journal signature p)
+      → chains.node.imprint ≢ zero_imprint → chain ≡ chain_to image journal chains.time p → published ≡ record_to image journal p → IsSignature text (renewed signature chain published) → IsSignature text (extended_signature image journal signature p)
   read_again journal bytes text p chains chain published signature read are some chain_is published_is again =
       let joined = or_refused_ok (aggregated image signature) chains (read_then image bytes signature read ∙ are) in
       let time = is_time signature chains joined some in
@@ -99,10 +99,10 @@ module _ (image : List ℕ → List ℕ)
         let time = is_time signature h.chains h.aggregation h.kept.some in
         let to : t ≤ p = subst (λ (t : ℕ). t ≤ p) (sym time) h.kept.to in
         let seconds = covered_seconds (root_at journal) journal.start p in
-        let input : second_leaf (root_at journal) journal.start t ≡ h.chains.item.imprint = ap (second_leaf (root_at journal) journal.start) time ∙ h.kept.root in
+        let input : second_leaf (root_at journal) journal.start t ≡ h.chains.node.imprint = ap (second_leaf (root_at journal) journal.start) time ∙ h.kept.root in
         record {
-          item = h.chains.item;
-          chains = subst (λ (time : ℕ). IsAggregated image (plain_chains signature.chains) (first_input signature) time h.chains.item) (sym time) (is_aggregated signature h.chains h.aggregation h.kept.some);
+          node = h.chains.node;
+          chains = subst (λ (time : ℕ). IsAggregated image (plain_chains signature.chains) (first_input signature) time h.chains.node) (sym time) (is_aggregated signature h.chains h.aggregation h.kept.some);
           calendar = chain_to image journal t p;
           has_calendar = refl;
           input = input;

@@ -45,8 +45,8 @@ pub record LeadsToKept (image : List ℕ → List ℕ) (journal : Contents) (byt
   pub whole : IsSignature bytes signature
   pub short : length bytes ≤ 60000
   pub aggregation : aggregated image signature ≡ Ok chains
-  pub real : chains.item.imprint ≢ zero_imprint
+  pub real : chains.node.imprint ≢ zero_imprint
   pub from : journal.start ≤ chains.time
-  pub root : root_at journal chains.time ≡ Some chains.item.imprint
+  pub root : root_at journal chains.time ≡ Some chains.node.imprint
   pub to : chains.time ≤ p
   pub covered : IsCovered (root_at journal) journal.start p

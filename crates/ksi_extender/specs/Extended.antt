@@ -29,7 +29,7 @@ abbrev pub or_refused : Result Aggregated Refusal → Result Aggregated ExtendRe
 or_refused (Ok chains) = Ok chains
 or_refused (Err refusal) = Err (refusals.Refused refusal)
 
--- the time of the aggregation chains and the item that they lead to, of what is a signature and passes V2 to V6 and V15
+-- the time of the aggregation chains and the node that they lead to, of a signature that passes V2 to V6 and V15
 abbrev pub chains_in : (List ℕ → List ℕ) → List ℕ → Result Aggregated ExtendRefusal
 chains_in image bytes = do
   signature ← or_malformed (signature_at bytes)
@@ -45,11 +45,11 @@ all_kept (Some second) = Err (refusals.Undecided second)
 -- the start to p are kept, and the chains lead to the root that is kept for their time
 abbrev pub kept_to : Contents → Aggregated → ℕ → Result (Unit {0}) ExtendRefusal
 kept_to journal chains p = do
-  need (not (bytes_eq chains.item.imprint zero_imprint)) (refusals.Refused MissedSecond)
+  need (not (bytes_eq chains.node.imprint zero_imprint)) (refusals.Refused MissedSecond)
   need (nat_le journal.start chains.time) (refusals.BeforeStart chains.time)
   need (nat_le chains.time p) (refusals.TooEarly chains.time p)
   all_kept (first_missing (root_at journal) journal.start p)
-  need (bytes_eq (second_leaf (root_at journal) journal.start chains.time) chains.item.imprint) (refusals.RootDiffers chains.time (second_leaf (root_at journal) journal.start chains.time) chains.item.imprint)
+  need (bytes_eq (second_leaf (root_at journal) journal.start chains.time) chains.node.imprint) (refusals.RootDiffers chains.time (second_leaf (root_at journal) journal.start chains.time) chains.node.imprint)
 
 -- ---- the new bytes
 
@@ -61,8 +61,8 @@ chain_to image journal t p = record { publication = p; time = t; input = second_
 abbrev pub record_to : (List ℕ → List ℕ) → Contents → ℕ → Publishing
 record_to image journal p = record { time = p; hash = covered_root image (root_at journal) journal.start p; references = []; repositories = [] }
 
--- E5: the bytes with this chain and this record in place of what they had of both, where their content fits an element;
--- a size above 2^64 - 1 is told as 2^64 - 1
+-- E5: the bytes with this chain and this record in place of the old ones, if their content fits an element; a size above
+-- 2^64 - 1 is reported as 2^64 - 1
 abbrev pub fitting : List ℕ → Calendar → Publishing → Result (List ℕ) ExtendRefusal
 fitting bytes chain published = do
   need (nat_le (length (extended_content bytes chain published)) 65535) (refusals.TooLarge (min (length (extended_content bytes chain published)) (2 ^ 64 - 1)))

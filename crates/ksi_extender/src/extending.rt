@@ -27,15 +27,16 @@ use std::alloc::Global;
 use std::marker::Brand;
 use std::sync::ledger::{Blank, Ledger};
 
-/// The bytes of a signature extended to second `p`: its aggregation chains and the unknown elements that are to be passed
-/// on, byte for byte and in their order, with the calendar chain from the root that they lead to up to the root of the
-/// seconds from 0 to `p`, and the record of that root. What it had of both is not looked at beyond its grammar.
+/// The bytes of a signature extended to second `p`: its aggregation chains and the unknown elements that are to be
+/// copied, byte for byte and in their order, with the calendar chain from the root that they lead to up to the root of
+/// the seconds from 0 to `p`, and the record of that root. The old calendar chain and record only have to be in their
+/// grammar.
 ///
 /// # Errors
-/// The first of these that stands: the bytes are no signature; V2 to V6, then V15; the chains lead to the zero imprint
-/// (V9); their time is before the journal's start, or after `p`; a second from the start to `p` is not kept; the root that is kept
-/// for their time is another than the one that they lead to; the new content has more than 65,535 bytes. `NoMemory` may
-/// come only where all of these were looked at but the last.
+/// The first of these that applies: the bytes are no signature; V2 to V6, then V15; the chains lead to the zero imprint
+/// (V9); their time is before the journal's start, or after `p`; a second from the start to `p` is not kept; the root
+/// that is kept for their time differs from the one that they lead to; the new content has more than 65,535 bytes.
+/// `NoMemory` may occur only after all of these but the last were checked.
 pub fn extend<C: Compress>(
     alloc: Global,
     journal: &Journal<C>,
@@ -215,7 +216,7 @@ fn check_kept<C: Compress, L: Ledger>(
     ensures most { steps.new ≤ steps.old + 1 }
     ensures least { IfOk result (λ _. steps.old < steps.new) }
 {
-    let given = chains.item.imprint;
+    let given = chains.node.imprint;
     let second = chains.time;
     if given == Imprint::ZERO {
         return Err(ExtendRefusal::Refused(Refusal::MissedSecond));
@@ -259,7 +260,7 @@ fn proof_to<C: Compress, L: Ledger>(
     requires to { chains.now.time ≤ p }
     requires journal { IsJournal C.image journal.now }
     requires covered { IsCovered (root_at journal.now) journal.now.start p }
-    requires root { second_leaf (root_at journal.now) journal.now.start chains.now.time ≡ chains.now.item.imprint }
+    requires root { second_leaf (root_at journal.now) journal.now.start chains.now.time ≡ chains.now.node.imprint }
     ensures chain { IfOk result (λ proof. proof.0 ≡ chain_to C.image journal.now chains.now.time p) }
     ensures published { IfOk result (λ proof. proof.1 ≡ record_to C.image journal.now p) }
     ensures most { steps.new ≤ steps.old + 126 }
@@ -267,7 +268,7 @@ fn proof_to<C: Compress, L: Ledger>(
 {
     calendar_is_covered();
     one_climb();
-    let input = chains.item.imprint;
+    let input = chains.node.imprint;
     let links = journal.calendar().chain_to_counted(chains.time, p, steps)?;
     let root = climb_calendar::<C>(input, links.as_slice());
     let chain = CalendarChain {

@@ -24,6 +24,6 @@ pub enum ExtendRefusal {
         kept: Imprint,
         given: Imprint,
     },
-    /// E5: the new content has so many bytes, above 65,535.
+    /// E5: the new content has this many bytes, above 65,535.
     TooLarge(u64),
 }

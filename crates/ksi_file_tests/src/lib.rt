@@ -1,11 +1,11 @@
-//! Tests of the small crates at the bottom, and of files and what is computed over them: `ksi_imprint`, `ksi_split`,
-//! `ksi_tlv`, `ksi_ports`, `ksi_calendar`, `ksi_publications` and `ksi_words`; the trees and chains of `ksi_aggtree`; the
-//! readers and writers of `ksi_signature`, `ksi_schedule` and `ksi_journal`; the fronts of `ksi_consistency`, the mirrors of
+//! Tests of the small crates at the bottom, of files, and of the crates over files: `ksi_imprint`, `ksi_split`, `ksi_tlv`,
+//! `ksi_ports`, `ksi_calendar`, `ksi_publications` and `ksi_words`; the trees and chains of `ksi_aggtree`; the readers and
+//! writers of `ksi_signature`, `ksi_schedule` and `ksi_journal`; the fronts of `ksi_consistency`, the mirrors of
 //! `ksi_mirror` and the blocks of log lines of `ksi_logblock`; and `ksi_verifier`, `ksi_texts`, `ksi_extender` and
 //! `ksi_auditor`.
 //!
-//! They stand in a crate of their own, since a crate with tests is proved twice. Nothing is here for the layers above.
-//! Most are rows of text: words that stand for bytes, and behind an equals sign what comes of them.
+//! They are in a crate of their own, since a crate with tests is proved twice. No layer above uses it. Most tests are rows
+//! of text: words that describe bytes, an equals sign, and the expected result.
 #![tactic(auto)]
 
 #[cfg(test)]

@@ -35,7 +35,7 @@ pub(crate) fn aggregated(alloc: Global, text: &str) -> Result<String, Fail> {
 
 fn led(bytes: &[u8]) -> Option<(u64, Node)> {
     match aggregate_view::<Tiny>(&view(bytes).ok()?) {
-        Ok(led) => Some((led.time, led.item)),
+        Ok(led) => Some((led.time, led.node)),
         Err(_) => None,
     }
 }

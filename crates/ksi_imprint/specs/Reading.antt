@@ -1,4 +1,4 @@
--- What reading an imprint answers.
+-- The result of reading an imprint.
 use Rattle.std.specs.Prelude.{ℕ, ◌+◌, ◌*◌, List, [], ◌∷◌, length, ◌==◌, not, unwrap_or, Option, Some, None, Result, Ok, Err, if◌then◌else◌}
 use Rattle.std.specs.List.{position_from}
 use Rattle.ksi_imprint.specs.declared.fault.ImprintFault.{ImprintFault}
@@ -10,7 +10,7 @@ use Rattle.hex.specs.Hex.{is_hex_digit, hex_digit_value}
 use Rattle.hex.specs.declared.error.FromHexError.{FromHexError}
 use Rattle.hex.specs.declared.error.FromHexError.TheVariants.{InvalidHexCharacter, OddLength, InvalidStringLength, OutOfMemory}
 
--- the imprint that the bytes are, or why they are none
+-- the imprint that the bytes are, or the fault if they are not an imprint
 abbrev pub imprint_at : List ℕ → Result (List ℕ) ImprintFault
 imprint_at [] = Err (Length 0)
 imprint_at (algorithm ∷ digest) =
@@ -28,19 +28,19 @@ hex_bytes [] = []
 hex_bytes (high ∷ []) = []
 hex_bytes (high ∷ low ∷ rest) = (digit_value high * 16 + digit_value low) ∷ hex_bytes rest
 
--- the imprint of digits, or the place of the first byte that is none
+-- the imprint of a text of hex digits, or the place of the first byte that is not a digit
 abbrev pub digits_at : List ℕ → Option ℕ → Result (List ℕ) HexFault
 digits_at text None = Ok (1 ∷ hex_bytes text)
 digits_at text (Some place) = Err (Digit place)
 
--- the imprint whose digest the text spells in hex, or why it spells none
+-- the imprint whose digest the text encodes in hex, or the fault
 unfoldable pub hex_at : List ℕ → Result (List ℕ) HexFault
 hex_at text =
     if length text == 64
     then digits_at text (position_from (λ c. not (is_hex_digit c)) 0 text)
     else Err (hex.Length (length text))
 
--- the fault of a text of 64 bytes by that of the decoder, of which only the first can be
+-- the fault of a text of 64 bytes from the decoder's error; only the first case occurs
 abbrev pub digit_fault_of : FromHexError → HexFault
 digit_fault_of (InvalidHexCharacter c place) = Digit place
 digit_fault_of OddLength = hex.Length 64

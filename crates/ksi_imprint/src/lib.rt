@@ -1,9 +1,9 @@
-//! Imprints: SHA-256 digests (FIPS 180-4) behind the byte that names the algorithm, and hashing as a trait.
+//! Imprints: a byte that identifies the algorithm, then a SHA-256 digest (FIPS 180-4). Hashing is a trait.
 //!
-//! A contract sees an [`Imprint`] as its 33 bytes and [`Bytes`] as their list. The layers above rely on three things:
-//! reading gives exactly the imprint that the bytes or the hex text are, or the fault that stands; `join` and `of` of a
-//! [`Compress`] are one function on lists of bytes; and what that function gives is an imprint. That SHA-256's are of bytes
-//! is a law ([`laws`]). What comes in pieces is hashed by [`stream`].
+//! In contracts an [`Imprint`] is its 33 bytes and [`Bytes`] is a list. The layers above rely on three things: reading
+//! returns exactly the imprint that the bytes or the hex text encode, or the fault; `join` and `of` of a [`Compress`] are
+//! one function on lists of bytes; and the result of that function is an imprint. A law says that SHA-256's imprints
+//! consist of bytes ([`laws`]). Data that comes in pieces is hashed by [`stream`].
 //!
 //! ```text
 //! let left = Sha::of(b"abc");

@@ -1,6 +1,6 @@
 use crate::NoMemory;
 
-/// Why a call gives nothing: for a reason of its own, or for want of memory.
+/// Why a call returns no result: for a reason of its own, or because memory ran out.
 #[derive(Clone, Copy, Debug, PartialEq, Eq)]
 pub enum Refused<F> {
     /// The call's own reason.

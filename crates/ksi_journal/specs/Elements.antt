@@ -1,4 +1,4 @@
--- The elements of a journal in their order: what each says behind those before it, or its fault.
+-- The elements of a journal in their order: the meaning of each after those before it, or its fault.
 use Rattle.std.specs.Prelude.{◌<◌, IsOk, ℕ, ◌+◌, ◌-◌, ◌==◌, ◌&&◌, ◌||◌, nat_le, List, [], ◌∷◌, ◌++◌, length, take, drop, slice_index, Bool, true, false, Some, None, Result, Ok, Err, if◌then◌else◌}
 use Rattle.std.specs.Str.{bytes_eq}
 use Rattle.ksi_imprint.specs.declared.fault.ImprintFault.{ImprintFault}
@@ -25,9 +25,9 @@ use Rattle.ksi_synod.specs.declared.core_plan.VotersFrom.{VotersFrom}
 use Rattle.ksi_journal.specs.Journal.{Contents}
 use Rattle.ksi_journal.specs.Voters.{cores_in}
 
--- What the elements so far say: the version that the file has, where in it they end, what the journal then holds, the
--- least second of voters, second, number and time that may stand next, and the second whose items come, with how many are
--- still to come.
+-- The meaning of the elements so far: the version of the file, the place in it at which they end, the content of the
+-- journal then, the least second of voters, second, number and time that may come next, and the second whose items come,
+-- with how many are still to come.
 pub record Loaded : Type 0 where
   pub version : Version
   pub stage : Stage
@@ -39,13 +39,13 @@ pub record Loaded : Type 0 where
   pub current : Second
   pub left : ℕ
 
--- what stands in version 2 alone
+-- elements of version 2 only
 abbrev pub in_two : Version → ℕ → List ℕ
 in_two One kind = []
 in_two Two kind = kind ∷ []
 
--- the kinds that may stand next: 1 start, 2 second, 3 item, 4 issued signature, 5 publication, 6 end; and in version 2
--- 7 item with a name, 8 voters
+-- the kinds that may come next: 1 start, 2 second, 3 item, 4 issued signature, 5 publication, 6 end; and in version 2 7
+-- item with a name, 8 voters
 abbrev pub kinds_next : Version → Stage → List ℕ
 kinds_next version Start = 1 ∷ []
 kinds_next version Voters = 2 ∷ 4 ∷ 5 ∷ 6 ∷ in_two version 8
@@ -80,7 +80,7 @@ rises least n place = if nat_le least n then Ok tt else Err (orders.Order place)
 unfoldable pub rising : ℕ → Inside → Result (ℕ × Inside) OrderFault
 rising least i = field 1 i >>= λ one. time_at one.0 >>= λ t. rises least t one.0.place >>= λ _. Ok (t, one.1)
 
--- behind it 2: an imprint
+-- after it 2: an imprint
 unfoldable pub dated : ℕ → Inside → Result (ℕ × List ℕ × Inside) OrderFault
 dated least i = rising least i >>= λ one. field 2 one.1 >>= λ two. imprint_at two.0 >>= λ root. Ok (one.0, root, two.1)
 
@@ -101,7 +101,7 @@ start_at s at = or_named (time_at at) >>= λ t. Ok (started s t)
 abbrev pub voters_in : ℕ → ℕ → Result (List ℕ) JournalFault
 voters_in bits place = if nat_le 1 bits && nat_le bits 511 then Ok (cores_in bits) else Err (faults.Voters place)
 
--- the second, the bits, where these stand, and what is then left
+-- the second, the bits, their place, and the elements then left
 unfoldable pub voting : ℕ → Inside → Result (ℕ × ℕ × ℕ × Inside) OrderFault
 voting least i = rising least i >>= λ one. field 2 one.1 >>= λ two. number_at two.0 >>= λ bits. Ok (one.0, bits, two.0.place, two.1)
 
@@ -135,7 +135,7 @@ closed s kept = record s {
   left = 0;
 }
 
--- a second of which so many items are to come
+-- a second of which this many items are to come
 abbrev pub opened : Loaded → Second → ℕ → Loaded
 opened s kept n = if n == 0 then closed s kept else record s { stage = Items; current = kept; left = n }
 
@@ -153,7 +153,7 @@ unfoldable pub read_second : Loaded → PlacedTlv → Result Loaded JournalFault
 read_second s at = or_named (said_at s.least_second at) >>= λ said. counted s said.0 said.1 said.2
 
 -- ---- 3: an item: 34 bytes, an imprint and a level of at most 239; 7: an item with a name: 34 bytes, an imprint and a
--- level of at most 238, and behind them the name
+-- level of at most 238, and then the name
 
 abbrev pub highest_named : ℕ
 highest_named = 238
@@ -255,7 +255,7 @@ element_read image s at =
     else if at.element.kind == 8 then voters_at s at
     else end_at s at
 
--- what memory may be wanting for: an element other than the start that has no fault
+-- the elements for which memory may run out: an element other than the start that has no fault
 abbrev pub WantsFor : (List ℕ → List ℕ) → Loaded → PlacedTlv → Type 0
 WantsFor image s at = (1 < at.element.kind) × IsOk (element_read image s at)
 

@@ -14,7 +14,7 @@ abbrev pub magic : Version → List ℕ
 magic One = codes "KSIJRNL1"
 magic Two = codes "KSIJRNL2"
 
--- behind the magic of the version stand whole elements in their order, which say what the journal holds
+-- after the magic of the version there are whole elements in their order, which encode the content of the journal
 unfoldable pub journal_format : (List ℕ → List ℕ) → Version → Format Loaded JournalFault Contents
 journal_format image version =
     record { magic = magic version; other = faults.Magic; order = journal_order image; start = nothing_yet version; value = λ s. s.contents }
@@ -32,7 +32,7 @@ pub record IsOtherFile (bytes : List ℕ) (fault : JournalFault) : Type 0 where
   pub begins : IsOther bytes
   pub named : fault ≡ faults.Magic
 
--- the first fault of the elements behind the magic of a version
+-- the first fault of the elements after the magic of a version
 pub record IsFaultInside (image : List ℕ → List ℕ) (bytes : List ℕ) (fault : JournalFault) : Type 0 where
   pub version : Version
   pub first : files.IsFaultInside (journal_format image version) bytes fault
@@ -40,7 +40,7 @@ pub record IsFaultInside (image : List ℕ → List ℕ) (bytes : List ℕ) (fau
 abbrev pub IsJournalFault : (List ℕ → List ℕ) → List ℕ → JournalFault → Type 0
 IsJournalFault image bytes fault = IsOtherFile bytes fault ⊎ IsFaultInside image bytes fault
 
--- memory was wanting for an element behind the start, up to which there is no fault
+-- memory ran out for an element after the start, up to which there is no fault
 pub record IsWantingInside (image : List ℕ → List ℕ) (bytes : List ℕ) : Type 0 where
   pub version : Version
   pub wanting : files.IsWantingInside (journal_format image version) (WantsFor image) bytes

@@ -42,7 +42,7 @@ pub record IsItem (item : Item) : Type 0 where
   pub low : leaf_level item ≤ highest_item
   pub name : IfSome item.name IsName
 
--- the tree of the items has the root, which is the zero imprint where there are none, and there alone
+-- the tree of the items has the root, which is the zero imprint if and only if there are none
 abbrev pub IsRootOf : (List ℕ → List ℕ) → List Item → List ℕ → Type 0
 IsRootOf image [] root = root ≡ zero_imprint
 IsRootOf image (item ∷ items) root = (root ≢ zero_imprint) × ((tree_of image (item ∷ items)).imprint ≡ root)
@@ -63,8 +63,8 @@ pub record IsPublication (publication : ℕ × List ℕ) : Type 0 where
   pub early : publication.0 < 2 ^ 63
   pub imprint : IsImprint publication.1
 
--- The start and all times are below 2^63, no second stands before the start, and the seconds of voters, kept seconds,
--- numbers and published times rise; the tree of each second has its root.
+-- The start and all times are below 2^63, no second is before the start, and the seconds of voters, kept seconds, numbers
+-- and published times rise; the tree of each second has its root.
 pub record IsJournal (image : List ℕ → List ℕ) (journal : Contents) : Type 0 where
   pub start : journal.start < 2 ^ 63
   pub voters : AllByRecursion IsVoters journal.voters

@@ -37,12 +37,12 @@ abbrev pub view_signature : Result (ℕ × Bor (List ℕ)) OrderFault → Result
 view_signature (Ok found) = Ok (found.0, found.1.now)
 view_signature (Err fault) = Err fault
 
--- what is kept for a second, among what stands at a place
+-- the kept part of a second, from the entry at a place
 abbrev pub at_place : Option Second → ℕ → Option Second
 at_place None t = None
 at_place (Some kept) t = if kept.second == t then Some kept else None
 
--- what stands at a place
+-- the entry at a place
 abbrev pub place_of : List Second → ℕ → Option Second
 place_of [] n = None
 place_of (kept ∷ others) zero = Some kept

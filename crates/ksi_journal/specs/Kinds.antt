@@ -24,7 +24,7 @@ journal_kinds journal =
     ++ (seconds_kinds journal.seconds
     ++ (map (λ signature. 4) journal.issued ++ (map (λ publication. 5) journal.publications ++ 6 ∷ []))))
 
--- behind the magic of a version stand whole elements, and their kinds are those of the journal, one for one
+-- after the magic of a version there are whole elements, and their kinds are those of the journal, one for one
 pub record IsInOrder (bytes : List ℕ) (journal : Contents) : Type 0 where
   pub version : Version
   pub kinds : HasKinds (magic version) (journal_kinds journal) bytes

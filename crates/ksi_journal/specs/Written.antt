@@ -28,7 +28,7 @@ head_elements kept = plain 1 (numeral kept.second) ∷ plain 2 kept.root ∷ pla
 abbrev pub second_element : Second → Tlv
 second_element kept = plain 2 (texts (head_elements kept))
 
--- an item, and behind it its name where it has one
+-- an item, and then its name if it has one
 abbrev pub element_with : Item → Option (List ℕ) → Tlv
 element_with item None = plain 3 (item.imprint ++ item.level ∷ [])
 element_with item (Some name) = plain 7 (item.imprint ++ item.level ∷ name)

@@ -8,7 +8,7 @@ pub enum JournalFault {
     Magic,
     /// J2: the header or the body at this place passes the end of what holds it.
     Tlv(usize),
-    /// J3: an element of a kind that may not stand there; a second, kept or of voters, that is before the start or does
+    /// J3: an element of a kind that is not allowed there; a second, kept or of voters, that is before the start or does
     /// not rise; a number or time that does not rise. In version 1 voters and items with a name may stand nowhere.
     Order(usize),
     /// J4: the tree of a second's items has another imprint than its root: the second, the root, and that imprint.
@@ -21,9 +21,9 @@ pub enum JournalFault {
     /// J7: a second whose root is the zero imprint and that has items, or whose root is another and that has none or
     /// more than 65,536.
     Count(u64),
-    /// J8: the file or an element ends where a further element must stand, the end has content, or bytes follow it.
+    /// J8: the file or an element ends before a further element that is required, the end has content, or bytes follow it.
     Ends(usize),
-    /// J9: what stands behind the 34 bytes of an item is no name.
+    /// J9: the part after the 34 bytes of an item is no name.
     Name(usize),
     /// J10: the bits of voters are 0, or some of them is that of no core from 0 to 8.
     Voters(usize),

@@ -32,7 +32,7 @@ pub(crate) fn find<'a, L: Ledger>(
     }
 }
 
-/// What stands at a place.
+/// The entry at a place.
 fn stands(seconds: &[Second], place: usize) -> Option<&Second>
     ensures { view_kept result ≡ place_of seconds.now place }
 {

@@ -26,8 +26,8 @@ const HIGHEST_NAMED: u8 = 238;
 /// The item that an element of kind 3 is, or with a name one of kind 7.
 ///
 /// # Errors
-/// In this order: `Imprint` where the body does not have 34 bytes, with a name fewer, or no imprint; `Bound` at a level
-/// above 239, with a name above 238; `Name` where what stands behind the 34 bytes is no name.
+/// In this order: `Imprint` if the body does not have 34 bytes, with a name fewer, or no imprint; `Bound` at a level
+/// above 239, with a name above 238; `Name` if the bytes after the first 34 are no name.
 #[tactic(auto, unfolding(crate::specs::Elements::item_in))]
 pub fn read_item(at: &Placed<'_>) -> Result<Item, JournalFault>
     ensures value { result ≡ item_in (view_placed at.now) }

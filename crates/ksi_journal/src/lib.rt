@@ -1,13 +1,13 @@
-//! Journals: what cores kept, as a file. A journal is eight bytes of magic and then, in exactly this order, elements: a
-//! start, in version 2 the voters, the kept seconds, each with its root and right behind it its items, the issued
-//! signatures, the publications, and an end, as docs/FORMATS.md tells it.
+//! Journals: files of what cores kept. A journal is a magic of eight bytes and then elements in exactly this order: a
+//! start; in version 2 the voters; the kept seconds, each with its root and directly after it its items; the issued
+//! signatures; the publications; and an end (docs/FORMATS.md, "Journals").
 //!
-//! A contract sees a [`Journal`] as a record of lists. The layer above may rely on this: [`load`] gives exactly the
-//! journal of the file that the bytes are, or the first fault in order of bytes, and computes each tree; in every
-//! journal the tree of a second has its root, and the seconds of voters, the kept seconds, the numbers and the published
-//! times rise, no second being before the start; `calendar` is that of the covered seconds, `root` and `first_missing` say
-//! what is kept, and `tree` lends the tree of a kept second; what [`write`] gives is the journal's text. The readers of a
-//! journal take no memory. What holds of the definitions is in `laws`.
+//! In contracts a [`Journal`] is a record of lists. The layers above may rely on this. [`load`] returns exactly the journal
+//! of the file that the bytes are, or the first fault in order of bytes, and computes each tree. In every journal the tree
+//! of a second has its root. The seconds of voters, the kept seconds, the numbers and the published times rise, and no
+//! second is before the start. `calendar` is the calendar of the covered seconds, `root` and `first_missing` report which
+//! seconds are kept, and `tree` borrows the tree of a kept second. [`write`] returns the journal's text. The readers of a
+//! journal allocate no memory. Laws on the definitions are in `laws`.
 //!
 //! ```text
 //! let journal = load::<Sha>(alloc, bytes)?;

@@ -27,7 +27,7 @@ pub(crate) const END: u16 = 0x06;
 
 pub(crate) const VOTERS: u16 = 0x08;
 
-/// What the elements so far say. Where memory is wanting for an element, some of it may have been taken: `load` then drops
+/// What the elements so far say. If memory runs out for an element, some of it may have been taken: `load` then drops
 /// all that was loaded, and nobody sees it.
 #[derive(Drop)]
 pub(crate) struct Loading<C: Compress> {

@@ -32,7 +32,7 @@ impl<C: Compress> Loading<C> {
         }
     }
 
-    /// A second of which so many items are to come.
+    /// A second of which this many items are to come.
     fn open(&mut self, second: u64, root: Imprint, count: u64) -> Result<(), Refused<JournalFault>>
         requires { second < 2 ^ 63 }
         ensures read { Steps (counted self.old second root count) self.new result }

@@ -41,7 +41,7 @@ pub fn load<C: Compress>(alloc: Global, bytes: &[u8]) -> Result<Journal<C>, Refu
     }
 }
 
-/// The version by the magic that the bytes begin with, and what stands behind it.
+/// The version by the magic that the bytes begin with, and the part after it.
 fn after_version(bytes: &[u8]) -> Option<(Version, &[u8])>
     ensures some { IfSome result (λ found. bytes.now ≡ magic found.0 ++ found.1.now) }
     ensures short { IfSome result (λ found. 8 + length found.1.now < 2 ^ 64) }

@@ -36,7 +36,7 @@ pub(crate) fn read_voters(at: &Placed<'_>, least: u64) -> Result<VotersFrom, Jou
     }
 }
 
-/// The second, the bits, and where these stand.
+/// The second, the bits, and the place of the bits.
 #[tactic(auto, unfolding(crate::specs::Elements::voting))]
 fn voting(inside: &mut Fields<'_>, least: u64) -> Result<(u64, u64, usize), OrderFault>
     ensures value { IsVoting least (left inside.old) (left inside.new) result }

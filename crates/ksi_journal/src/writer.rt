@@ -30,10 +30,10 @@ pub enum VersionRefusal {
     NeedsTwo,
 }
 
-/// The text of a journal, in version 2 where it needs that, which loads again as the journal.
+/// The text of a journal, in version 2 if it needs that, which loads again as the journal.
 ///
 /// # Errors
-/// `NoMemory` where memory was wanting.
+/// `NoMemory` if memory ran out.
 pub fn write<C: Compress>(alloc: Global, journal: &Journal<C>) -> Result<Bytes, NoMemory>
     ensures text { IfOk result (λ text. text ≡ journal_text journal.now) }
     ensures again { IfOk result (λ text. IsJournalFile C.image text journal.now) }
@@ -45,7 +45,7 @@ pub fn write<C: Compress>(alloc: Global, journal: &Journal<C>) -> Result<Bytes, 
 /// The text of a journal in a version, which loads again as the journal.
 ///
 /// # Errors
-/// `NeedsTwo` exactly where version 1 is asked and the journal needs version 2; `NoMemory` where memory was wanting.
+/// `NeedsTwo` exactly if version 1 is asked for and the journal needs version 2; `NoMemory` if memory ran out.
 pub fn write_version<C: Compress>(
     alloc: Global,
     journal: &Journal<C>,
@@ -129,7 +129,7 @@ fn put_elements<C: Compress>(
     Ok(())
 }
 
-/// A writer of nothing yet, with room for so many bytes.
+/// A writer of nothing yet, with room for this many bytes.
 fn body_of(alloc: Global, room: usize) -> Result<Writer, NoMemory>
     ensures { IfOk result (λ body. body ≡ []) }
 {

@@ -36,7 +36,7 @@ abbrev pub letters : List Side → List ℕ
 letters [] = []
 letters (side ∷ sides) = letter side ++ letters sides
 
--- the sides of a way, and a dash where there are none
+-- the sides of a path, or a dash if there are none
 abbrev pub way_text : List Side → List ℕ
 way_text [] = codes "-"
 way_text (side ∷ sides) = letters (side ∷ sides)

@@ -19,7 +19,7 @@ log_refused_line logs.NoLines = refused_for (codes "B3" ∷ [])
 log_refused_line logs.TooManyLines = refused_for (codes "B5" ∷ [])
 log_refused_line (logs.LineTooLong line size) = refused_for (codes "B6" ∷ decimal line ∷ decimal size ∷ [])
 
--- a block of so many lines has no line k
+-- a block of this many lines has no line k
 abbrev pub no_line_line : (k count : ℕ) → List ℕ
 no_line_line k count = refused_for (codes "B4" ∷ decimal k ∷ decimal count ∷ [])
 
@@ -31,7 +31,7 @@ abbrev pub not_led_line : LineRefusal → List ℕ
 not_led_line (refusals.Level fault) = level_line fault
 not_led_line (refusals.RootDiffers computed kept) = refused_for (codes "B2" ∷ hex_of computed ∷ hex_of kept ∷ [])
 
--- where the line of a proof stands in a block
+-- the place of a proof's line in a block
 abbrev pub located_line : Located → List ℕ
 located_line (answers.NotAccepted refusal) = not_led_line refusal
 located_line (answers.In k) = line_text (codes "in" ∷ decimal k ∷ [])

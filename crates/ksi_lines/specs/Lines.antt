@@ -12,7 +12,7 @@ use Rattle.ksi_verifier.specs.declared.refusal.Refusal.TheVariants.{WrongHash, I
 abbrev pub line_text : List (List ℕ) → List ℕ
 line_text words = line_of words ++ (10 ∷ [])
 
--- a number, and a dash where there is none
+-- a number, or a dash if there is none
 abbrev pub optional_text : Option ℕ → List ℕ
 optional_text None = codes "-"
 optional_text (Some n) = decimal n

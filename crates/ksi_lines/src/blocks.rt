@@ -44,10 +44,10 @@ pub fn level_line(fault: LevelFault) -> Line
     }
 }
 
-/// Where the line of a proof stands in a block.
+/// The line for the place of a proof's line in a block.
 ///
 /// # Errors
-/// `NoMemory` where the line of a clash finds none.
+/// `NoMemory` if the line of a clash finds none.
 pub fn located_line(alloc: Global, located: &Located) -> Result<Line, NoMemory>
     requires { IsShortAnswer located.now }
     ensures { IfOk result (λ line. line ≡ located_line located.now) }

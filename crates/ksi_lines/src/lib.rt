@@ -1,10 +1,9 @@
 //! The printed lines of faults, refusals and answers, and the printer of any other line.
 //!
-//! A contract sees a [`Line`] as its bytes, at most 32,767 of them. The layers above may rely on this: [`print`] gives exactly
-//! the texts of its words, parted by single spaces, and a line feed; and the line of a fault of a file, of a check that fails,
-//! of a signature that is not extended, of an audit, of what a front shows, of what is answered about a masked block and of
-//! mirrors is exactly its definition (`FaultWords`, `Lines`, `Answers`, `Blocks`, `Mirrors`).
-//! Only the line of a clash takes memory.
+//! In contracts a [`Line`] is its bytes, at most 32,767 of them. The layers above may rely on this: [`print`] returns
+//! exactly the texts of its words, separated by single spaces, and a line feed. The lines of faults of files, failed
+//! checks, refused extensions, audits, fronts, masked blocks and mirrors are exactly their definitions (`FaultWords`,
+//! `Lines`, `Answers`, `Blocks`, `Mirrors`). Only the line of a clash allocates memory.
 //!
 //! ```text
 //! let line = print(Text("accepted"), &[], &[Number(second)]);

@@ -9,7 +9,7 @@ pub struct Line {
     text: Text,
 }
 
-/// A line of at most 255 bytes takes no memory, so that a refusal is told also where there is none.
+/// A line of at most 255 bytes allocates no memory, so a refusal is printed even if there is none.
 #[derive(Drop)]
 pub enum Text {
     Short(ArrayVec<u8, 255>),

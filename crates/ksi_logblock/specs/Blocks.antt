@@ -10,7 +10,7 @@ pub record Masked : Type 0 where
   pub seed : List ℕ
   pub lines : List (List ℕ)
 
--- the mask of the line behind a leaf
+-- the mask of the line after a leaf
 abbrev pub mask_behind : (List ℕ → List ℕ) → List ℕ → List ℕ → List ℕ
 mask_behind image seed leaf = image (leaf ++ seed)
 
@@ -18,16 +18,16 @@ mask_behind image seed leaf = image (leaf ++ seed)
 abbrev pub leaf_text : (List ℕ → List ℕ) → List ℕ → List ℕ → List ℕ
 leaf_text image mask line = join_text mask (image line) 1
 
--- the leaf of a line behind another one's leaf
+-- the leaf of a line after another one's leaf
 abbrev pub leaf_behind : (List ℕ → List ℕ) → List ℕ → List ℕ → List ℕ → List ℕ
 leaf_behind image seed before line = image (leaf_text image (mask_behind image seed before) line)
 
--- the leaves of lines, each behind the one before it
+-- the leaves of lines, each after the one before it
 abbrev pub leaves_behind : (List ℕ → List ℕ) → List ℕ → List ℕ → List (List ℕ) → List (List ℕ)
 leaves_behind image seed before [] = []
 leaves_behind image seed before (line ∷ lines) = leaf_behind image seed before line ∷ leaves_behind image seed (leaf_behind image seed before line) lines
 
--- the leaves of a block: the zero imprint stands for one before the first
+-- the leaves of a block: the zero imprint takes the place of one before the first
 abbrev pub leaves_of : (List ℕ → List ℕ) → Masked → List (List ℕ)
 leaves_of image block = leaves_behind image block.seed zero_imprint block.lines
 
@@ -35,7 +35,7 @@ leaves_of image block = leaves_behind image block.seed zero_imprint block.lines
 abbrev pub leaf_at : (List ℕ → List ℕ) → Masked → ℕ → List ℕ
 leaf_at image block k = slice_index_or (leaves_of image block) k zero_imprint
 
--- the mask of line k, behind the leaf before it: the zero imprint stands for one before the first
+-- the mask of line k, after the leaf before it: the zero imprint takes the place of one before the first
 abbrev pub mask_among : (List ℕ → List ℕ) → List ℕ → List (List ℕ) → ℕ → List ℕ
 mask_among image seed leaves k = mask_behind image seed (slice_index_or (zero_imprint ∷ leaves) k zero_imprint)
 

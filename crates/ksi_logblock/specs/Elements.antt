@@ -34,12 +34,12 @@ side_of kind = if kind == 7 then Left else Right
 unfoldable pub correction_at : PlacedTlv → Result ℕ OrderFault
 correction_at at = or_fault (orders.Bound at.place) (level_in at)
 
--- an imprint, behind which nothing stands
+-- an imprint, after which nothing follows
 unfoldable pub with_sibling : Side → ℕ → Inside → Result LineLink OrderFault
 with_sibling side correction i =
     field 2 i >>= λ found. imprint_at found.0 >>= λ sibling. done found.1 >>= λ _. Ok (record { side = side; correction = correction; sibling = sibling })
 
--- a correction, where one stands first, and the imprint
+-- a correction, if one comes first, and the imprint
 abbrev pub with_correction : Side → Inside → Result (PlacedTlv × Inside) OrderFault → Result LineLink OrderFault
 with_correction side i (Ok found) = correction_at found.0 >>= λ correction. with_sibling side correction found.1
 with_correction side i (Err (orders.Order place)) = with_sibling side 0 i

@@ -18,7 +18,7 @@ magic = codes "KSILINE1"
 abbrev pub proof_of : Said → LineProof
 proof_of said = record { mask = said.mask; links = said.links }
 
--- behind the magic stand whole elements in their order, which say a proof
+-- after the magic there are whole elements in their order, which encode a proof
 unfoldable pub proof_format : Format Said ProofFault LineProof
 proof_format = record { magic = magic; other = faults.Magic; order = proof_order; start = nothing_yet; value = proof_of }
 

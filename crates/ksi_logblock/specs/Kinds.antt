@@ -8,6 +8,6 @@ use Rattle.ksi_logblock.specs.File.{magic, kind_of}
 abbrev pub proof_kinds : LineProof → List ℕ
 proof_kinds proof = 1 ∷ map (λ link. kind_of link.side) proof.links
 
--- behind the magic stand whole elements, and their kinds are those of the proof, one for one
+-- after the magic there are whole elements, and their kinds are those of the proof, one for one
 abbrev pub IsInOrder : List ℕ → LineProof → Type 0
 IsInOrder bytes proof = HasKinds magic (proof_kinds proof) bytes

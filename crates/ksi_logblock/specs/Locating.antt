@@ -76,7 +76,7 @@ line_pairs block line (Some k) = (line, line_at block k) ∷ []
 abbrev pub first_pair : (List ℕ → List ℕ) → Masked → List ℕ → LineProof → Option ℕ → Option Pair
 first_pair image block line proof named = differing (node_pairs image block line proof ++ line_pairs block line named)
 
--- ---- where the line stands
+-- ---- the place of the line
 
 -- the line that is named is this one, and the proof's mask is its own
 abbrev pub is_own : (List ℕ → List ℕ) → Masked → List ℕ → LineProof → Option ℕ → Bool
@@ -101,6 +101,6 @@ abbrev pub against_root : (List ℕ → List ℕ) → Masked → List ℕ → Li
 against_root image block line proof (Err fault) = NotAccepted (Level fault)
 against_root image block line proof (Ok root) = if bytes_eq root (kept_root image block) then compared image block line proof else NotAccepted (RootDiffers root (kept_root image block))
 
--- where the line of a proof stands in a block
+-- the place of a proof's line in a block
 unfoldable pub located : (List ℕ → List ℕ) → Masked → List ℕ → LineProof → Located
 located image block line proof = against_root image block line proof (root_by image line proof)

@@ -10,7 +10,7 @@ abbrev pub lines_of : List ℕ → List (List ℕ)
 lines_of [] = []
 lines_of (byte ∷ log) = if byte == 10 then [] ∷ lines_of log else onto_first byte (lines_of log)
 
--- each line with a line feed behind it
+-- each line with a line feed after it
 abbrev pub text_of : List (List ℕ) → List ℕ
 text_of [] = []
 text_of (line ∷ lines) = line ++ 10 ∷ text_of lines
@@ -44,7 +44,7 @@ pub record MakeBlock (lines : List (List ℕ)) : Type 0 where
   pub some : 0 < length lines
   pub taken : AreTaken lines
 
--- line k, counted from 0, behind lines that a block takes
+-- line k, counted from 0, after lines that a block takes
 pub record IsReached (lines : List (List ℕ)) (k : ℕ) (line : List ℕ) : Type 0 where
   pub before : List (List ℕ)
   pub others : List (List ℕ)
@@ -52,12 +52,12 @@ pub record IsReached (lines : List (List ℕ)) (k : ℕ) (line : List ℕ) : Typ
   pub number : k ≡ length before
   pub taken : AreTaken before
 
--- there is a line behind as many as a block may have
+-- there is a line after as many as a block may have
 pub record IsLineTooMany (lines : List (List ℕ)) : Type 0 where
   pub line : List ℕ
   pub reached : IsReached lines most_lines line
 
--- line k, which a block has room for, has so many bytes, more than it may have
+-- line k, which a block has room for, has this many bytes, more than it may have
 pub record IsLineTooLong (lines : List (List ℕ)) (k size : ℕ) : Type 0 where
   pub line : List ℕ
   pub reached : IsReached lines k line

@@ -50,7 +50,7 @@ pub record HasImprints (proof : LineProof) : Type 0 where
   pub mask : IsImprint proof.mask
   pub siblings : AllByRecursion (λ link. length link.sibling ≡ 33) proof.links
 
--- the line stands in the block, with its mask and sides, or the strings that it is located by are different and have one hash
+-- the line is in the block, with its mask and sides, or the strings that it is located by are different and have one hash
 abbrev pub StandsOrClash : (List ℕ → List ℕ) → Masked → List ℕ → LineProof → Type 0
 StandsOrClash image block line proof =
     ((k : ℕ) × IsLine image block line proof k)

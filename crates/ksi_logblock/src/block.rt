@@ -34,7 +34,7 @@ pub const LONGEST_LINE: usize = 8000;
 pub enum PushRefusal {
     /// The block has 65,536 lines.
     Full,
-    /// The line has so many bytes, more than 8,000.
+    /// The line has this many bytes, more than 8,000.
     LineTooLong(usize),
 }
 
@@ -119,7 +119,7 @@ impl<'a, C: Compress> Block<'a, C> {
         self.lines.len()
     }
 
-    /// The root of the tree over the leaves, none where there is no line.
+    /// The root of the tree over the leaves, or none if there is no line.
     pub fn root(&self) -> Option<Node>
         ensures { result ≡ block_root C.image self.now }
     {

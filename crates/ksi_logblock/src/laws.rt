@@ -69,8 +69,8 @@ pub fn lines_have_a_root()
         block_root image block ≡ Some (tree_of image (items_of image block)) }
 {}
 
-/// Whatever is answered of a line and a proof over a block shows what it says, for every hash function whose images are
-/// imprints; and the line is found exactly where it stands in the block, and its proof has its own mask and sides.
+/// Each answer about a line and a proof over a block is true, for every hash function whose images are imprints. The line
+/// is found exactly if it is in the block, and its proof has its own mask and sides.
 pub fn location_shows()
     ensures shows { (image : List ℕ → List ℕ) (block : Masked) (line : List ℕ) (proof : LineProof) →
         ((bytes : List ℕ) → IsImprint (image bytes)) → 0 < length block.lines → IsImprint proof.mask →
@@ -133,14 +133,14 @@ pub fn proof_is_read()
     formats::file_is_read::<Reading, ProofFault, LineProof>();
 }
 
-/// A log is cut into its lines: they have no line feeds, and one stands behind each of them, but perhaps behind the last. Of no
-/// other lines it is the log.
+/// A log is cut into its lines: they have no line feeds, and one follows each of them, except perhaps the last. It is the
+/// log of no other lines.
 pub fn log_is_of_lines()
     ensures cut { (log : List ℕ) → IsLogOf log (lines_of log) }
     ensures alone { (log : List ℕ) (lines : List (List ℕ)) → IsLogOf log lines → lines ≡ lines_of log }
 {}
 
-/// The lines of a log make a block, or one refusal stands, and not both.
+/// The lines of a log make a block, or one refusal applies, and not both.
 pub fn log_or_refusal()
     ensures one { (lines : List (List ℕ)) → MakeBlock lines ⊎ ((refusal : LogRefusal) × IsLogRefusal lines refusal) }
     ensures not_both { (lines : List (List ℕ)) (refusal : LogRefusal) → MakeBlock lines → IsLogRefusal lines refusal → ⊥ }
@@ -148,7 +148,7 @@ pub fn log_or_refusal()
         IsLogRefusal lines refusal → IsLogRefusal lines other → refusal ≡ other }
 {}
 
-/// What `log_at` gives is the lines of a log where they make a block, or the refusal that stands.
+/// `log_at` returns the lines of a log if they make a block, or else the refusal that applies.
 pub fn log_is_read()
     ensures lines { (log : List ℕ) (lines : List (List ℕ)) →
         (log_at log ≡ Ok lines) ↔ ((lines ≡ lines_of log) × MakeBlock (lines_of log)) }

@@ -1,15 +1,18 @@
-//! Masked blocks of log lines: many lines are signed as one imprint, and the proof of a line says nothing of its neighbours.
+//! Masked blocks of log lines: many lines are signed as one imprint, and the proof of a line reveals nothing about its
+//! neighbours.
 //!
-//! A line's mask is the hash of the leaf before it and of the block's seed, the first one's that of the zero imprint and the
-//! seed. A line's leaf is the join of its mask and the line's hash at level 1, and the root is that of the aggregation tree
-//! over the leaves (Buldas, Truu, Laanoja, Gerhards, "Efficient Record-Level Keyless Signatures for Audit Logs", 2014).
+//! A line's mask is the hash of the leaf before it and the block's seed; for the first line it is that of the zero imprint
+//! and the seed. A line's leaf is the join of its mask and the line's hash at level 1, and the root is that of the
+//! aggregation tree over the leaves (Buldas, Truu, Laanoja, Gerhards, "Efficient Record-Level Keyless Signatures for Audit
+//! Logs", 2014).
 //!
-//! The layer above may rely on this: `push` takes a line or says why not; `root` is the tree over the leaves; `proof` gives a
-//! line's own mask and chain, and leads to the root; [`root_of`] gives the imprint that a line and a proof lead to; and
-//! [`locate`] says of a line and a proof that lead to a kept block's root which line of the block it is, with its own mask and
-//! way, or has a clash of the hash function. [`block_of`] gives the block of a log's lines, or the first line that no block takes.
-//! A proof file is read and written both ways. Lines are lent, not copied; what a block keeps beside them is a leaf each. Only
-//! `push`, `block_of`, `proof`, `read_proof`, `write_proof` and a clash take memory. What holds of the definitions is in [`laws`].
+//! The layers above may rely on this. `push` adds a line or returns why it cannot. `root` is the tree over the leaves.
+//! `proof` returns a line's own mask and chain, which lead to the root. [`root_of`] returns the imprint that a line and a
+//! proof lead to. If these lead to a kept block's root, [`locate`] returns which line of the block it is, with its own mask
+//! and path, or a collision of the hash function. [`block_of`] returns the block of a log's lines, or the first line that
+//! no block can have. Proof files are read and written. Lines are borrowed, not copied; a block keeps one leaf for each.
+//! Only `push`, `block_of`, `proof`, `read_proof`, `write_proof` and a clash allocate memory. Laws on the definitions are
+//! in [`laws`].
 //!
 //! ```text
 //! let mut block = Block::<Sha>::new(alloc, seed);

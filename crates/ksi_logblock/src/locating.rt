@@ -1,4 +1,4 @@
-//! Where the line of a proof stands in a kept block.
+//! The place of a proof's line in a kept block.
 ghost use Rattle.std.specs.Prelude.{◌≡◌, ◌≤◌, ◌<◌, ◌↔◌, ℕ, [], length, IfOk, IfSome, OnErr};
 ghost use Rattle.std.specs.List.{AllByRecursion};
 ghost use Rattle.ksi_beside.specs.Beside.{IsApart, IsShortWalk, differing, laid_from};
@@ -32,7 +32,7 @@ pub enum LineRefusal {
     RootDiffers(Imprint, Imprint),
 }
 
-/// Where the line of a proof stands in a kept block.
+/// The place of a proof's line in a kept block.
 #[derive(Drop)]
 pub enum Located {
     /// It and its proof do not lead to the block's root.
@@ -43,14 +43,14 @@ pub enum Located {
     Clash(Clash),
 }
 
-/// Where the line of a proof stands in a block that has lines.
+/// The place of a proof's line in a block that has lines.
 ///
-/// First it is seen whether both lead to the block's root. Then the line is the one that the links' sides name, where that
-/// one is this line and the proof's mask is its own. Else each link's string, from the top, and at last the line are compared
-/// with the kept ones: the first that differs is a clash. Only a clash takes memory.
+/// First it is checked that line and proof lead to the block's root. Then the line is the one that the links' sides name,
+/// if that one is this line and the proof's mask is its own. Otherwise each link's string, from the top, and at last the
+/// line are compared with the kept ones: the first that differs is a clash. Only a clash allocates memory.
 ///
 /// # Errors
-/// `NoMemory` only where the answer would be a clash.
+/// `NoMemory` only if the answer would be a clash.
 pub fn locate<C: Compress>(
     alloc: Global,
     block: &Block<'_, C>,

@@ -17,14 +17,14 @@ pub enum LogRefusal {
     NoLines,
     /// B5: it has a 65,537th line.
     TooManyLines,
-    /// B6: this line, counted from 0, has so many bytes, more than 8,000.
+    /// B6: this line, counted from 0, has this many bytes, more than 8,000.
     LineTooLong { line: usize, size: usize },
 }
 
-/// The block of the lines of a log. They are lent.
+/// The block of the lines of a log. They are borrowed.
 ///
 /// # Errors
-/// `NoLines` where there are none; else of the lines that a block does not take that which stands first, or `NoMemory`.
+/// `NoLines` if there are none; otherwise the refusal of the first line that a block does not take, or `NoMemory`.
 pub fn block_of<'a, C: Compress>(
     alloc: Global,
     seed: [u8; 32],
@@ -51,7 +51,7 @@ pub fn block_of<'a, C: Compress>(
     Ok(block)
 }
 
-/// The first line, and what stands behind it.
+/// The first line, and the part after it.
 fn first_line(log: &[u8]) -> (&[u8], &[u8])
     requires { 0 < length log.now }
     ensures lines { lines_of log.now ≡ result.0.now ∷ lines_of result.1.now }

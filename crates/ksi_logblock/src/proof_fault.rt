@@ -5,7 +5,7 @@ pub enum ProofFault {
     Magic,
     /// G2: the header or the body at this place passes the end of what holds it.
     Tlv(usize),
-    /// G3: an element of a kind that may not stand there, or the end of the file or of a link where one is missing.
+    /// G3: an element of a kind that is not allowed there, or the end of the file or of a link where one is missing.
     Order(usize),
     /// G4: no imprint of SHA-256.
     Imprint(usize),

@@ -19,7 +19,7 @@ use std::alloc::Global;
 /// The file of a line's proof.
 ///
 /// # Errors
-/// `NoMemory` where memory was wanting.
+/// `NoMemory` if memory ran out.
 pub fn write_proof(alloc: Global, proof: &LineProof) -> Result<Bytes, NoMemory>
     ensures text { IfOk result (λ text. text ≡ proof_text proof.now) }
     ensures again { IfOk result (λ text. IsProofFile text proof.now) }

@@ -1,4 +1,4 @@
--- The elements of a mirror's file in their order: what each says behind those before it, or its fault.
+-- The elements of a mirror's file in their order: the meaning of each after those before it, or its fault.
 use Rattle.std.specs.Prelude.{◌<◌, IsOk, ℕ, ◌+◌, ◌-◌, ◌==◌, ◌&&◌, ◌||◌, nat_le, List, [], ◌∷◌, ◌++◌, length, Bool, true, false, Result, Ok, Err, if◌then◌else◌}
 use Rattle.ksi_tlv.specs.Walking.{PlacedTlv}
 use Rattle.ksi_aggtree.specs.declared.item.Item.{Item}
@@ -16,9 +16,9 @@ use Rattle.ksi_mirror.specs.declared.stage.MirrorStage.TheVariants.{Start, Roots
 use Rattle.ksi_mirror.specs.declared.sealed_list.SealedList.{SealedList}
 use Rattle.ksi_mirror.specs.Mirrors.{MirrorState, highest_core}
 
--- What the elements so far say: where in the file they end, what the mirror then has, the least second of a root and of a
--- list that may stand next, the least core of a list of that second, and the list whose items come, with how many are still
--- to come.
+-- The meaning of the elements so far: the place in the file at which they end, the content of the mirror then, the least
+-- second of a root and of a list that may come next, the least core of a list of that second, and the list whose items
+-- come, with how many are still to come.
 pub record MirrorSaid : Type 0 where
   pub stage : MirrorStage
   pub mirror : MirrorState
@@ -28,7 +28,7 @@ pub record MirrorSaid : Type 0 where
   pub current : SealedList
   pub left : ℕ
 
--- the kinds that may stand next: 1 start, 2 root, 9 list, 3 item, 7 item with a name, 6 end
+-- the kinds that may come next: 1 start, 2 root, 9 list, 3 item, 7 item with a name, 6 end
 abbrev pub kinds_next : MirrorStage → List ℕ
 kinds_next Start = 1 ∷ []
 kinds_next Roots = 2 ∷ 9 ∷ 6 ∷ []
@@ -132,7 +132,7 @@ element_read s at =
     else if at.element.kind == 3 || at.element.kind == 7 then item_at s at
     else end_at s at
 
--- what memory may be wanting for: an element other than the start that has no fault
+-- the elements for which memory may run out: an element other than the start that has no fault
 abbrev pub WantsFor : MirrorSaid → PlacedTlv → Type 0
 WantsFor s at = (1 < at.element.kind) × IsOk (element_read s at)
 

@@ -11,7 +11,7 @@ use Rattle.ksi_mirror.specs.Elements.{MirrorSaid, WantsFor, mirror_order, nothin
 abbrev pub magic : List ℕ
 magic = codes "KSIMIRR1"
 
--- behind the magic stand whole elements in their order, which say what the mirror has
+-- after the magic there are whole elements in their order, which encode the content of the mirror
 unfoldable pub mirror_format : Format MirrorSaid JournalFault MirrorState
 mirror_format = record { magic = magic; other = faults.Magic; order = mirror_order; start = nothing_yet; value = λ s. s.mirror }
 
@@ -25,6 +25,6 @@ IsMirrorFault = IsFileFault mirror_format
 abbrev pub IsOther : List ℕ → Type 0
 IsOther = files.IsOther mirror_format
 
--- memory was wanting for an element behind the start, up to which there is no fault
+-- memory ran out for an element after the start, up to which there is no fault
 abbrev pub IsWantingInside : List ℕ → Type 0
 IsWantingInside = files.IsWantingInside mirror_format WantsFor

@@ -11,7 +11,7 @@ pub record DifferFirst {A : Type 0} (key : A → ℕ) (xs ys : List A) (x y : A)
   pub other : x ≢ y
   pub before : (k : ℕ) → k < key x → Agree (entry_at key xs k) (entry_at key ys k)
 
--- the least entry of both, and what of each is behind it
+-- the least entry of both, and the rest of each after it
 pub record IsLeast {A : Type 0} (key : A → ℕ) (xs ys : List A) (x : A) (others further : List A) : Type 0 where
   pub there : or_else (entry_at key xs (key x)) (entry_at key ys (key x)) ≡ Some x
   pub agree : Agree (entry_at key xs (key x)) (entry_at key ys (key x))

@@ -15,6 +15,6 @@ lists_kinds (one ∷ others) = 9 ∷ (map item_kind one.items ++ lists_kinds oth
 abbrev pub mirror_kinds : MirrorState → List ℕ
 mirror_kinds mirror = 1 ∷ (map (λ root. 2) mirror.roots ++ (lists_kinds mirror.lists ++ 6 ∷ []))
 
--- behind the magic stand whole elements, and their kinds are those of the mirror, one for one
+-- after the magic there are whole elements, and their kinds are those of the mirror, one for one
 abbrev pub IsInOrder : List ℕ → MirrorState → Type 0
 IsInOrder bytes mirror = HasKinds magic (mirror_kinds mirror) bytes

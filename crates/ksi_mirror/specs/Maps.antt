@@ -1,12 +1,12 @@
 -- Finite maps, by what they have under each key, and their union. The law `unions_join` says what this comes to.
 use Rattle.std.specs.Prelude.{◌≡◌, ℕ, ◌==◌, List, [], ◌∷◌, Option, Some, None, if◌then◌else◌}
 
--- what stands under a key in a list of entries
+-- the value of a key in a list of entries
 abbrev pub entry_at : {A : Type 0} → (A → ℕ) → List A → ℕ → Option A
 entry_at key [] k = None
 entry_at key (x ∷ xs) k = if key x == k then Some x else entry_at key xs k
 
--- the first, where there is one, else the second
+-- the first, if there is one, otherwise the second
 abbrev pub or_else : {A : Type 0} → Option A → Option A → Option A
 or_else None later = later
 or_else (Some x) later = Some x

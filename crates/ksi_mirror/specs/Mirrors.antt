@@ -42,7 +42,7 @@ list_of mirror t j = list_among mirror.lists t j
 abbrev pub highest_core : ℕ
 highest_core = 8
 
--- where a list stands among others: by its second first, and then by its core
+-- the place of a list among others: by its second first, and then by its core
 abbrev pub rank_at : (second core : ℕ) → ℕ
 rank_at t j = 16 * t + j
 
@@ -60,7 +60,7 @@ pub record IsList (one : SealedList) : Type 0 where
   pub few : length one.items ≤ most_items
   pub items : AllByRecursion IsItem one.items
 
--- The start and all seconds are below 2^63, nothing stands before the start, roots rise by second, and lists by second and
+-- The start and all seconds are below 2^63, nothing is before the start, roots rise by second, and lists by second and
 -- core; no list is empty.
 pub record IsMirror (mirror : MirrorState) : Type 0 where
   pub start : mirror.start < 2 ^ 63

@@ -20,7 +20,7 @@ lowest of_core core (suc n) = or_else (of_core core) (lowest of_core (suc core) 
 abbrev pub kept_with : (second : ℕ) → (root : List ℕ) → (items : List Item) → Second
 kept_with t root items = record { second = t; root = root; items = items }
 
--- M4 where there is none
+-- M4 if there is none
 abbrev pub with_second : (second : ℕ) → Option Second → Result (List Second) WholeRefusal → Result (List Second) WholeRefusal
 with_second t None others = Err (NoTree t)
 with_second t (Some kept) (Ok others) = Ok (kept ∷ others)
@@ -57,7 +57,7 @@ module _ (image : List ℕ → List ℕ) where
 
   -- ---- in the code
 
-  -- of lists in order that stand at a second or behind it, the items of the first of the second whose tree has the root
+  -- of lists in order, at a second or after it, the items of the first of the second whose tree has the root
   abbrev pub first_tree : (second : ℕ) → (root : List ℕ) → List SealedList → Option (List Item)
   first_tree t root [] = None
   first_tree t root (one ∷ others) = if one.second == t then or_else (tree_as root (Some one.items)) (first_tree t root others) else None

@@ -1,11 +1,11 @@
-//! Mirrors: what of cores is copied elsewhere (a replica), merged there in any order, and made a journal.
+//! Mirrors: copies of the data of cores (replicas), which are merged in any order and turned into a journal.
 //!
-//! A [`Mirror`] has a start, roots by second, and by second and core the list of items that the core sealed. A contract
-//! sees a record of lists in order; `root_of` and `list_of` say what it has. The layer above may rely on this: [`merge`]
-//! gives the union of two mirrors, or says why there is none, and merging is idempotent, commutative and associative
-//! ([`laws`]), so that copies may come late, twice and in any order; [`whole`] gives the journal of a mirror's roots, each
-//! with the list of the lowest core whose tree has the root; [`load_mirror`] gives exactly the mirror of the file that the
-//! bytes are, or the first fault in order of bytes, and what [`write_mirror`] gives loads again.
+//! A [`Mirror`] has a start, roots by second, and by second and core the list of items that the core sealed. In contracts
+//! it is a record of sorted lists; `root_of` and `list_of` look one up. The layers above may rely on this. [`merge`]
+//! returns the union of two mirrors, or a reason why there is none. Merging is idempotent, commutative and associative
+//! ([`laws`]), so copies may come late, twice and in any order. [`whole`] returns the journal of a mirror's roots, each
+//! with the list of the lowest core whose tree has the root. [`load_mirror`] returns exactly the mirror of the file that
+//! the bytes are, or the first fault in order of bytes, and it reads the result of [`write_mirror`] as the same mirror.
 //!
 //! ```text
 //! let one = load_mirror(alloc, bytes)?;

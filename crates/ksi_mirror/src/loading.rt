@@ -28,7 +28,7 @@ pub(crate) const NAMED: u16 = 0x07;
 
 pub(crate) const LIST: u16 = 0x09;
 
-/// What the elements so far say. Where memory is wanting for an element, `load_mirror` drops all that was loaded.
+/// What the elements so far say. If memory runs out for an element, `load_mirror` drops all that was loaded.
 #[derive(Drop)]
 pub(crate) struct MirrorLoading {
     stage: MirrorStage,
@@ -156,7 +156,7 @@ impl MirrorLoading {
         }
     }
 
-    /// A list of which so many items are to come.
+    /// A list of which this many items are to come.
     fn open(&mut self, second: u64, core: u8, count: u64) -> Result<(), Refused<JournalFault>>
         requires { core ≤ 8 }
         ensures read { Steps (counted self.old second core count) self.new result }

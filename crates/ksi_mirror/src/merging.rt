@@ -28,6 +28,7 @@ pub fn merge(alloc: Global, one: &Mirror, two: &Mirror) -> Result<Mirror, Refuse
     ensures merged { IfOk result (Merges one.now two.now) }
     ensures refused { IfRefused result (IsMergeRefusal one.now two.now) (one.now.start ≡ two.now.start) }
     ensures answer { OrNoMemory (merged_of one.now two.now) result }
+    ensures same { merged_of one.now one.now ≡ Ok one.now }
     ensures either { SameOrRefused (merged_of one.now two.now) (merged_of two.now one.now) }
     ensures any_order { (three : MirrorState) → IsMirror three →
         SameOrRefused (merged_then (merged_of one.now two.now) (λ first. merged_of first three))

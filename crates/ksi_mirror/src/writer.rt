@@ -46,7 +46,7 @@ fn put_elements(writer: &mut Writer, alloc: Global, mirror: &Mirror) -> Result<(
     Ok(())
 }
 
-/// A writer of nothing yet, with room for so many bytes.
+/// A writer of nothing yet, with room for this many bytes.
 fn body_of(alloc: Global, room: usize) -> Result<Writer, NoMemory>
     ensures { IfOk result (λ body. body ≡ []) }
 {

@@ -1,5 +1,5 @@
 -- The calls of a store are deeds.
-use Rattle.std.proofs.Common.{◌≡◌, ℕ, Bool, true, false, List, sym, subst, inl, inr, Option}
+use Rattle.std.proofs.Common.{◌≡◌, ℕ, Bool, true, false, List, sym, ap, subst, inl, inr, Option}
 use Rattle.ksi_synod.specs.CorePlans.{CorePlanState}
 use Rattle.ksi_corenode.specs.Lawful.{with_new}
 use Rattle.ksi_corenode.specs.CoreState.{IsTurn}
@@ -8,6 +8,7 @@ use Rattle.ksi_corenode.specs.Restored.{IsOfFacts}
 use Rattle.ksi_corenode.specs.declared.event.CoreEvent.{CoreEvent}
 use Rattle.ksi_corenode.specs.declared.fact.Fact.{Fact}
 use Rattle.ksi_corenode.specs.declared.step.Step.{Step}
+use Rattle.ksi_disk.specs.declared.log.GateLog.{GateLog}
 use Rattle.ksi_nodestore.specs.Stores.{IsFileOf}
 use Rattle.ksi_nodestore.specs.StoreState.{IsStoreOf, StoreState}
 use Rattle.ksi_nodestore.specs.Takes.{fact_added, IsFileBeforeOrAfter}
@@ -19,6 +20,10 @@ OneFile = (me : ℕ) (plan : CorePlanState) (facts others : List Fact) (file : L
 
 grew_to : OneFile → (me : ℕ) (plan : CorePlanState) (more : Option Fact) (facts : List Fact) (old new : List ℕ) → IsFileOf me plan facts old → IsFileOf me plan (with_new facts more) new → FileGrew me plan more old new
 grew_to one me plan more facts old new is after = λ others found. subst (λ (fs : List Fact). IsFileOf me plan (with_new fs more) new) (one me plan facts others old is found) after
+
+-- a store that is as it was has its file
+pub same_file : {D : Type 0} (content : D → List ℕ) (old new : StoreState D) → new.log ≡ old.log → content new.log.disk ≡ content old.log.disk
+same_file {D} content old new same = ap (λ (log : GateLog D). content log.disk) same
 
 module _ {D E : Type 0} (image : List ℕ → List ℕ) (content : D → List ℕ) (images : D → List ℕ → Type 0) (others : E → List ℕ) (left_by : E → List ℕ → Type 0) (one : OneFile) (me : ℕ) (plan : CorePlanState) where
   pub took : (facts : List Fact) (old new : StoreState D) (asked : CoreEvent) (step : Step) → IsStoreOf image content images me plan facts old → IsTurn old.core new.core (event_second asked) (core_row image old.core asked) step

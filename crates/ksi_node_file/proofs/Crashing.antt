@@ -6,12 +6,13 @@ use Rattle.std.proofs.lemmas.Bool.{eqb-true, eq-eqb, false_from_ne_true}
 use Rattle.ksi_synod.specs.CorePlans.{CorePlanState}
 use Rattle.ksi_corenode.specs.Rows.{restart_row}
 use Rattle.ksi_corenode.specs.Turns.{Turn}
-use Rattle.ksi_corenode.specs.Facts.{fact_of}
+use Rattle.ksi_corenode.specs.Facts.{fact_of, stable_state}
 use Rattle.ksi_corenode.specs.Lawful.{with_new, AreLawful}
-use Rattle.ksi_corenode.specs.CoreState.{CoreState, state_of, IsTurn}
+use Rattle.ksi_corenode.specs.CoreState.{CoreState, state_of, IsSame, IsTurn}
 use Rattle.ksi_corenode.specs.Events.{core_row, event_second, IsAsked, MayTake}
 use Rattle.ksi_corenode.specs.Owners.{BringsOwned}
-use Rattle.ksi_corenode.specs.Restored.{HasFacts, IsOfFacts}
+use Rattle.ksi_corenode.specs.Restored.{HasFacts, IsOfFacts, IsWell}
+use Rattle.ksi_corenode.specs.SecondState.{SecondState}
 use Rattle.ksi_corenode.specs.declared.event.CoreEvent.{CoreEvent}
 use Rattle.ksi_corenode.specs.declared.fact.Fact.{Fact}
 use Rattle.ksi_corenode.specs.declared.step.Send.{Send}
@@ -24,12 +25,13 @@ use Rattle.ksi_schedule.specs.declared.event.Event.TheVariants.{RestartCore}
 use Rattle.ksi_world.specs.Histories.{WorldState, after, core_message, happens}
 use Rattle.ksi_world.specs.Nodes.{IsCore, core_turn}
 use Rattle.ksi_world.specs.CoreEvents.{asked_of, is_restart_of}
-use Rattle.ksi_facts.specs.Seen.{seen}
-use Rattle.ksi_facts.specs.State.{world_seen}
-use Rattle.ksi_facts.specs.Steps.{IsStepByFacts}
+use Rattle.ksi_laws_facts.specs.Seen.{seen}
+use Rattle.ksi_laws_facts.specs.State.{world_seen}
+use Rattle.ksi_laws_facts.specs.Steps.{IsStepByFacts}
 use Rattle.ksi_node_file.specs.CoreFacts.{core_facts}
-use Rattle.ksi_node_file.specs.Crashed.{Running, Deed, Happened, CutOff, events_of, all_events, WasOpened, TookStep, TakesPart, WasCutOff, IsDeed, Runs, IsCoreAfter, AreCoresAfter}
+use Rattle.ksi_node_file.specs.Crashed.{Running, Deed, Happened, CutOff, Refused, events_of, all_events, WasOpened, TookStep, IsAsBefore, TakesPart, WasCutOff, IsDeed, Runs, IsCoreAfter, AreCoresAfter}
 use Rattle.ksi_node_file.proofs.FactsMore.{RowsStore, facts_asked, facts_first, facts_unasked}
+use Rattle.ksi_node_file.proofs.Answering.{event_answers}
 use Rattle.ksi_node_file.proofs.Onwards.{after_more, first_keeps}
 
 -- the laws of the crates below
@@ -66,6 +68,25 @@ itself core = eq-eqb core core refl
 
 another : (j core : ℕ) → j ≢ core → is_restart_of j (RestartCore core) ≡ false
 another j core other = false_from_ne_true (eqb j core) (λ is. other (eqb-true j core is))
+
+-- a core that is as it was has the same facts
+same_facts : (image : List ℕ → List ℕ) (core_plan : CorePlanState) (facts : List Fact) (old new : CoreState) → IsSame old new → HasFacts image core_plan facts old → HasFacts image core_plan facts new
+same_facts image core_plan facts old new same has = record {
+  planned = same.plan ∙ has.planned;
+  begins = same.start ∙ has.begins;
+  there = subst (λ (me : ℕ). me < new.plan.cores) (sym same.me) (subst (λ (p : CorePlanState). old.me < p.cores) (sym same.plan) has.there);
+  lawful = has.lawful;
+  stored = λ t. ap stable_state (same.seconds t) ∙ has.stored t;
+  well = λ t. subst (λ (s : SecondState). IsWell image s) (sym (same.seconds t)) (has.well t);
+}
+
+refused_after : (image : List ℕ → List ℕ) (plan : PlanState) (events : List Event) (j : ℕ) (old new : Running) → IsAsBefore old new → IsCoreAfter image plan events j old → IsCoreAfter image plan events j new
+refused_after image plan events j old new same is = record {
+  mine = same.core.me ∙ is.mine;
+  has = same_facts image (core_plan_of plan) (core_facts image plan events j) old.core new.core same.core is.has;
+  file = subst (λ (file : List ℕ). IsFileOf j (core_plan_of plan) (core_facts image plan events j) file) (sym same.file) is.file;
+  keeps = λ t. same.core.seconds t ∙ is.keeps t;
+}
 
 module _ (image : List ℕ → List ℕ) (plan : PlanState) (laws : Laws image plan) where
   abbrev CorePlan : CorePlanState
@@ -208,6 +229,7 @@ module _ (image : List ℕ → List ℕ) (plan : PlanState) (laws : Laws image p
   deed_events before (Happened event) old new is = (is.0, tt)
   deed_events before (CutOff core event true) old new is = (is.1, (is.2, tt))
   deed_events before (CutOff core event false) old new is = (is.2, tt)
+  deed_events before (Refused core) old new is = tt
 
   deed_after : (before : List Event) (deed : Deed) (old new : ℕ → Running) → AreEvents plan before → AreCoresAfter image plan before old → IsDeed image plan before deed old new
       → AreCoresAfter image plan (before ++ events_of deed) new
@@ -221,6 +243,11 @@ module _ (image : List ℕ → List ℕ) (plan : PlanState) (laws : Laws image p
           let other : j ≢ core = λ same. cc (sym there ∙ eq-eqb j core same) in
           subst (λ (r : Running). IsCoreAfter image plan (before ++ events_of (CutOff core event stored)) j r) (sym (is.5 j other))
           (others_after before event core is.0 is.2 is.3 stored j (old j) other (cores j lt))
+  deed_after before (Refused core) old new are cores is = λ j lt. subst (λ (events : List Event). IsCoreAfter image plan events j (new j)) (sym (append-nil before)) (by j lt (eqb j core) refl)
+    where
+      by : (j : ℕ) → j < plan.cores → (b : Bool) → eqb j core ≡ b → IsCoreAfter image plan before j (new j)
+      by j lt true here = refused_after image plan before j (old j) (new j) (subst (λ (k : ℕ). IsAsBefore (old k) (new k)) (sym (eqb-true j core here)) is.0) (cores j lt)
+      by j lt false there = subst (λ (r : Running). IsCoreAfter image plan before j r) (sym (is.1 j (λ same. cc (sym there ∙ eq-eqb j core same)))) (cores j lt)
 
   pub runs_after : (deeds : List Deed) (before : List Event) (old new : ℕ → Running) → AreEvents plan before → AreCoresAfter image plan before old → Runs image plan before deeds old new
       → AreEvents plan (before ++ all_events deeds) × AreCoresAfter image plan (before ++ all_events deeds) new
@@ -244,3 +271,11 @@ module _ (image : List ℕ → List ℕ) (plan : PlanState) (laws : Laws image p
       ∙ sends (World before) j event asked here
       ∙ ap (λ (turn : Turn). (World before).wire ++ map (core_message j (event_second asked)) turn.sends) (sym (laws.row (World before) j old.core asked (is_core before j old is)))
       ∙ ap (λ (sent : List Send). (World before).wire ++ map (core_message j (event_second asked)) sent) (sym took.turn.sends)
+
+  -- what it answers is what the history answers
+  pub answered_after : (before : List Event) (event : Event) (j : ℕ) (old new : Running) (asked : CoreEvent) → IsCoreAfter image plan before j old → asked_of j (World before).wire event ≡ Some asked → (took : TookStep image j CorePlan asked old new)
+      → took.step.answer ≡ (happens image plan (World before) event).outcome.answer
+  answered_after before event j old new asked is here took =
+      took.turn.answer
+      ∙ ap (λ (turn : Turn). turn.answer) (laws.row (World before) j old.core asked (is_core before j old is))
+      ∙ sym (event_answers image plan (World before) j event asked here)

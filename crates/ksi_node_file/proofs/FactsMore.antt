@@ -30,15 +30,15 @@ use Rattle.ksi_world.specs.declared.message.Message.{Message}
 use Rattle.ksi_world.specs.Histories.{WorldState, after}
 use Rattle.ksi_world.specs.Nodes.{core_turn}
 use Rattle.ksi_world.specs.CoreEvents.{asked_by_content, asked_by_message, asked_of, where_mine}
-use Rattle.ksi_facts.specs.Seen.{Seen, seen}
-use Rattle.ksi_facts.specs.Deeds.{Act, Deed, Did, facts, own}
-use Rattle.ksi_facts.specs.Deeds as happened
-use Rattle.ksi_facts.specs.State.{second_seen, held_seen, wire_seen, world_seen}
-use Rattle.ksi_facts.specs.Steps.{IsStepByFacts, by_delivery, by_message, new_facts, step_by_facts}
-use Rattle.ksi_facts.specs.Stored.{AddsStored, core_act, core_acts}
+use Rattle.ksi_laws_facts.specs.Seen.{Seen, seen}
+use Rattle.ksi_laws_facts.specs.Deeds.{Act, Deed, Did, facts, own}
+use Rattle.ksi_laws_facts.specs.Deeds as happened
+use Rattle.ksi_laws_facts.specs.State.{second_seen, held_seen, wire_seen, world_seen}
+use Rattle.ksi_laws_facts.specs.Steps.{IsStepByFacts, by_delivery, by_message, new_facts, step_by_facts}
+use Rattle.ksi_laws_facts.specs.Stored.{AddsStored, core_act, core_acts}
 use Rattle.ksi_node_file.specs.CoreFacts.{core_facts, in_order}
 
-asked_here : (j i : ℕ) (asked e : CoreEvent) → where_mine j i asked ≡ Some e → (eqb j i ≡ true) × (asked ≡ e)
+pub asked_here : (j i : ℕ) (asked e : CoreEvent) → where_mine j i asked ≡ Some e → (eqb j i ≡ true) × (asked ≡ e)
 asked_here j i asked e is = by (eqb j i) refl is
   where
     by : (b : Bool) → eqb j i ≡ b → (if b then Some asked else None) ≡ Some e → (eqb j i ≡ true) × (asked ≡ e)

@@ -1,5 +1,6 @@
 pub mod Rooms
 pub mod FactsMore
+pub mod Answering
 pub mod Onwards
 pub mod Crashing
 pub mod Calls

@@ -21,9 +21,9 @@ use Rattle.ksi_schedule.specs.declared.event.Event.{Event}
 use Rattle.ksi_world.specs.Histories.{WorldState, after, first_world, happens, run}
 use Rattle.ksi_world.specs.Nodes.{IsCore, core_turn}
 use Rattle.ksi_world.specs.CoreEvents.{asked_of}
-use Rattle.ksi_facts.specs.Seen.{seen}
-use Rattle.ksi_facts.specs.State.{world_seen}
-use Rattle.ksi_facts.specs.Steps.{IsStepByFacts}
+use Rattle.ksi_laws_facts.specs.Seen.{seen}
+use Rattle.ksi_laws_facts.specs.State.{world_seen}
+use Rattle.ksi_laws_facts.specs.Steps.{IsStepByFacts}
 use Rattle.ksi_node_file.specs.CoreFacts.{core_facts}
 use Rattle.ksi_node_file.specs.Followed.{HasTaken, images_of, IsFollowing, IsInMemory, IsOpened}
 use Rattle.ksi_node_file.proofs.FactsMore.{RowsStore, facts_asked, facts_first, facts_unasked}

@@ -8,8 +8,8 @@ use Rattle.ksi_nodestore.specs.Spelling.{node_text}
 use Rattle.ksi_schedule.specs.declared.actor.Actor.TheVariants as actors
 use Rattle.ksi_schedule.specs.declared.event.Event.{Event}
 use Rattle.ksi_schedule.specs.Events.{History}
-use Rattle.ksi_facts.specs.Seen.{seen}
-use Rattle.ksi_facts.specs.Deeds.{Deed, Did, Sealed, Tried, Promised, Cast, Holds, facts}
+use Rattle.ksi_laws_facts.specs.Seen.{seen}
+use Rattle.ksi_laws_facts.specs.Deeds.{Deed, Did, Sealed, Tried, Promised, Cast, Holds, facts}
 
 -- a deed as the fact of a core, where it is one
 abbrev pub fact_in : Deed → List Fact

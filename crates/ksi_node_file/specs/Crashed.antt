@@ -4,7 +4,7 @@ use Rattle.ksi_synod.specs.CorePlans.{CorePlanState}
 use Rattle.ksi_corenode.specs.declared.fact.Fact.{Fact}
 use Rattle.ksi_corenode.specs.declared.step.Step.{Step}
 use Rattle.ksi_corenode.specs.declared.event.CoreEvent.{CoreEvent}
-use Rattle.ksi_corenode.specs.CoreState.{CoreState, state_of, IsTurn}
+use Rattle.ksi_corenode.specs.CoreState.{CoreState, state_of, IsSame, IsTurn}
 use Rattle.ksi_corenode.specs.Events.{core_row, event_second}
 use Rattle.ksi_corenode.specs.Lawful.{with_new}
 use Rattle.ksi_corenode.specs.Restored.{HasFacts, IsOfFacts}
@@ -32,13 +32,17 @@ running_in content store = record { core = store.core; file = content store.log.
 
 -- An event: whoever was asked took it and acknowledged it, and a restart of a core is that its store was opened again, after
 -- a crash between two events. Or a core was cut off in an event, by a failure or a crash at any moment, and its store was then
--- opened again; the fact of the event was stored, or was not, and no message of the event was handed out.
+-- opened again; the fact of the event was stored, or was not, and no message of the event was handed out. Or a core refused an
+-- event, because it was out of memory, say, and is as it was.
 pub data Deed : Type 0 where
   Happened : (event : Event) → Deed
   CutOff : (core : ℕ) → (event : Event) → (stored : Bool) → Deed
+  Refused : (core : ℕ) → Deed
 
--- the events of a history that say it: an event that was cut off happened if its fact was stored, and its core restarts
+-- the events of a history that say it: an event that was cut off happened if its fact was stored, and its core restarts; an
+-- event that was refused did not happen
 abbrev pub events_of : Deed → List Event
+events_of (Refused core) = []
 events_of (Happened event) = event ∷ []
 events_of (CutOff core event true) = event ∷ RestartCore core ∷ []
 events_of (CutOff core event false) = RestartCore core ∷ []
@@ -63,6 +67,11 @@ pub record TookStep (image : List ℕ → List ℕ) (me : ℕ) (plan : CorePlanS
   pub turn : IsTurn old.core new.core (event_second asked) (core_row image old.core asked) step
   pub file : FileGrew me plan step.fact old.file new.file
 
+-- it refused an event: its seconds and its file are as they were
+pub record IsAsBefore (old new : Running) : Type 0 where
+  pub core : IsSame old.core new.core
+  pub file : new.file ≡ old.file
+
 -- it takes part in an event that asks this of it, or restarts it, or neither
 abbrev pub TakesPart : (List ℕ → List ℕ) → (me : ℕ) → CorePlanState → (asked : Option CoreEvent) → (restarts : Bool) → (old new : Running) → Type 0
 TakesPart image me plan (Some asked) restarts old new = TookStep image me plan asked old new
@@ -79,7 +88,7 @@ pub record WasCutOff (image : List ℕ → List ℕ) (me : ℕ) (plan : CorePlan
   pub file : FileGrew me plan (fact_left image stored old.core asked) old.file new.file
   pub opened : WasOpened image me plan new
 
--- A RUN: the cores of a plan over deeds, behind these events
+-- A RUN: the cores of a plan over deeds, after these events
 
 module _ (image : List ℕ → List ℕ) (plan : PlanState) where
   abbrev pub IsDeed : (before : List Event) → Deed → (old new : ℕ → Running) → Type 0
@@ -88,6 +97,7 @@ module _ (image : List ℕ → List ℕ) (plan : PlanState) where
   IsDeed before (CutOff core event stored) old new =
       (asked : CoreEvent) × IsEvent plan event × (core < plan.cores) × (asked_of core (after image plan before).wire event ≡ Some asked)
       × WasCutOff image core (core_plan_of plan) asked stored (old core) (new core) × ((j : ℕ) → j ≢ core → new j ≡ old j)
+  IsDeed before (Refused core) old new = IsAsBefore (old core) (new core) × ((j : ℕ) → j ≢ core → new j ≡ old j)
 
   abbrev pub Runs : (before : List Event) → List Deed → (old new : ℕ → Running) → Type 0
   Runs before [] old new = (j : ℕ) → new j ≡ old j

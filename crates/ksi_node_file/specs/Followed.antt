@@ -46,7 +46,7 @@ pub record IsOpened (image : List ℕ → List ℕ) (me : ℕ) (plan : CorePlanS
   pub held : IsInMemory image me plan facts store
   pub made : IsOfFacts image me plan facts store.core
 
--- memory was wanting
+-- memory ran out
 abbrev pub IsWant : OpenRefusal → Type 0
 IsWant opens.Failed = ⊥
 IsWant opens.NotFormatted = ⊥

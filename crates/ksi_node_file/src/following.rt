@@ -7,8 +7,8 @@ ghost use Rattle.ksi_node_file.specs.Followed.{IsFollowing};
 
 use crate::stores::{empty_store, taken};
 use ksi_disk::MemDisk;
-use ksi_facts::laws::{rows_add_what_they_store, step_is_by_facts, world_is_seen};
 use ksi_imprint::{Compress, NoMemory};
+use ksi_laws_facts::laws::{rows_add_what_they_store, step_is_by_facts, world_is_seen};
 use ksi_nodestore::NodeStore;
 use ksi_schedule::{Event, Plan};
 use ksi_world::World;

@@ -1,9 +1,9 @@
-//! The node file of a core of a history: what the core stored, in the order in which it did.
+//! The node file of a core of a history: the facts that the core stored, in their order.
 //!
-//! [`node_file`] runs a schedule through the nodes, and takes what is asked of one core through a store of `ksi_nodestore` on
-//! a disk in memory. A restart of the core leaves its store as opening it again would, and does not read the file. No call of
-//! the disk fails: before each there is room and a turn for it. The layer above may rely on this: the bytes are the file of
-//! exactly the facts of that core in the history, which survive its restarts, one record for each in their order.
+//! [`node_file`] runs a schedule through the nodes, and passes the events of one core to a store of `ksi_nodestore` on a
+//! disk in memory. A restart of the core leaves its store as reopening would, without reading the file. No call of the disk
+//! fails, since each has room and a turn. The layers above may rely on this: the bytes are the file of exactly the facts of
+//! that core in the history, which survive its restarts, with one record for each, in their order.
 //!
 //! ```text
 //! let file = node_file::<Sha>(alloc, &schedule, 0)?;

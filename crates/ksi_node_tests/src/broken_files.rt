@@ -1,6 +1,5 @@
 use crate::logs::opened;
-use ksi_disk::{MemDisk, OpenRefusal, open_log};
-use ksi_imprint::Bytes;
+use ksi_disk::{MemDisk, OpenRefusal, Records, open_log};
 use std::alloc::Global;
 use std::test::Fail;
 
@@ -38,13 +37,8 @@ fn a_file_is_read_up_to_the_first_gate_that_is_not_open(rt: HostRuntime) -> Resu
     Ok(())
 }
 
-fn are_ab_and_c(records: &[Bytes]) -> bool {
-    match records {
-        [first, second] => {
-            first.as_slice() == b"ab".as_slice() && second.as_slice() == b"c".as_slice()
-        }
-        _ => false,
-    }
+fn are_ab_and_c(records: &Records) -> bool {
+    records.len() == 2 && records.get(0) == b"ab".as_slice() && records.get(1) == b"c".as_slice()
 }
 
 // Opens a file of two records, whose contents are these.

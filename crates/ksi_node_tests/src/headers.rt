@@ -57,7 +57,7 @@ fn formatted(alloc: Global) -> Result<MemDisk, Fail> {
 
 fn opens_without_records(alloc: Global, disk: MemDisk) -> bool {
     match open_log(alloc, disk, 18) {
-        Ok(opened) => opened.records.is_empty(),
+        Ok(opened) => opened.records.len() == 0,
         Err(_) => false,
     }
 }

@@ -1,7 +1,7 @@
-//! Tests of the nodes: rounds (`ksi_aggtree`), votes (`ksi_synod`), `ksi_corenode`, `ksi_aggregator` and `ksi_world`; and of the
-//! disks and what stands on them: `ksi_disk`, `ksi_nodestore` and `ksi_roundstore`.
+//! Tests of the nodes: rounds (`ksi_aggtree`), votes (`ksi_synod`), `ksi_corenode`, `ksi_aggregator` and `ksi_world`; and
+//! of disks and stores: `ksi_disk`, `ksi_nodestore` and `ksi_roundstore`.
 //!
-//! They stand in a crate of their own, since a crate with tests is proved twice. Nothing is here for the layers above.
+//! They are in a crate of their own, since a crate with tests is proved twice. No layer above uses it.
 #![tactic(auto)]
 
 #[cfg(test)]

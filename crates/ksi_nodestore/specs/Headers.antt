@@ -1,4 +1,4 @@
--- What stands in front of a node file.
+-- The header of a node file.
 use Rattle.std.specs.Int.{w64, from_be_bytes, to_be_bytes}
 use Rattle.std.specs.Prelude.{ℕ, ◌-◌, ◌^◌, ◌<◌, ◌≤◌, nat_le, nat_lt, ◌&&◌, Bool, bytes_eq, if◌then◌else◌, List, [], ◌∷◌, ◌++◌, length, take, drop, slice_index, Result, Ok, Err}
 use Rattle.ksi_nodestore.specs.declared.heads.Header.{Header}
@@ -9,7 +9,7 @@ use Rattle.ksi_nodestore.specs.declared.heads.HeaderFault.TheVariants.{NotFormat
 abbrev pub magic : List ℕ
 magic = 75 ∷ 83 ∷ 73 ∷ 78 ∷ 79 ∷ 68 ∷ 69 ∷ 49 ∷ []
 
--- a header: the magic, the core, how many cores there are, the first second in eight bytes
+-- a header: the magic, the core, the number of cores, the first second in eight bytes
 abbrev pub header_text : ℕ → ℕ → ℕ → List ℕ
 header_text core cores start = magic ++ core ∷ cores ∷ to_be_bytes w64 start
 
@@ -26,12 +26,12 @@ abbrev pub good_header : ℕ → ℕ → ℕ → Result Header HeaderFault
 good_header core cores start =
     if is_good core cores start then Ok (record { core = core; cores = cores; start = start }) else Err (Bad core cores start)
 
--- what the first 18 bytes are
+-- the meaning of the first 18 bytes
 abbrev pub header_at : List ℕ → Result Header HeaderFault
 header_at bytes =
     if nat_le 18 (length bytes) && bytes_eq (take 8 bytes) magic then good_header (slice_index bytes 8) (slice_index bytes 9) (from_be_bytes w64 (take 8 (drop 10 bytes)))
     else Err NotFormatted
 
--- the file of a node without facts: a header, and a closed gate
+-- the file of a node without facts: a header, and a closed commit byte
 abbrev pub empty_file : ℕ → ℕ → ℕ → List ℕ
 empty_file core cores start = header_text core cores start ++ 0 ∷ []

@@ -1,4 +1,4 @@
--- What a node file says: whose it is, how many facts it has, and of how many seconds they are; or what is wrong with it.
+-- The report on a node file: its core, its number of facts, and the number of seconds they are for; or what is wrong with it.
 use Rattle.std.specs.Prelude.{◌≡◌, ℕ, ◌^◌, is_some, List, [], length, take, Result, Ok, Err, ⊤}
 use Rattle.ksi_imprint.specs.declared.refused.Refused.{Refused}
 use Rattle.ksi_imprint.specs.declared.refused.Refused.TheVariants as refused
@@ -22,7 +22,7 @@ use Rattle.ksi_nodestore.specs.Headers.{header_at}
 use Rattle.ksi_nodestore.specs.FactReading.{facts_read}
 use Rattle.ksi_nodestore.specs.Stores.{IsFileOf, IsMalformedAt}
 
--- how many facts there are, and of how many seconds items are sealed and a root is held
+-- the number of facts, of seconds with sealed items, and of seconds with a held root
 abbrev pub counts_of : List Fact → Counts
 counts_of facts = record {
   records = length facts;
@@ -40,13 +40,13 @@ inspected_behind file (Err heads.NotFormatted) = Err faults.NotFormatted
 inspected_behind file (Err (heads.Bad core cores start)) = Err (faults.Bad core cores start)
 inspected_behind file (Ok header) = inspected_facts header.core (reading_of 18 file).ending (facts_read header.cores header.start (reading_of 18 file).records [] 18)
 
--- what a file says: its header first, then its records, then how they end
+-- the report on a file: its header first, then its records, then how they end
 unfoldable pub inspected : List ℕ → Result Inspected NodeFault
 inspected file = inspected_behind file (header_at (take 18 file))
 
--- WHAT THAT MEANS
+-- ITS MEANING
 
--- it is the file of this core, with facts of which there are so many. The plan is that of the header, without voters
+-- it is the file of this core, with this many facts. The plan is that of the header, without voters
 pub record IsInspected (file : List ℕ) (said : Inspected) : Type 0 where
   pub plan : CorePlanState
   pub facts : List Fact
@@ -54,13 +54,13 @@ pub record IsInspected (file : List ℕ) (said : Inspected) : Type 0 where
   pub file_is : IsFileOf said.core plan facts file
   pub counted : said.counts ≡ counts_of facts
 
--- the header is none, or its numbers are out of their bounds; or the file is broken behind it
+-- there is no header, or its numbers are out of bounds; or the file is broken after it
 abbrev pub IsNodeFault : List ℕ → NodeFault → Type 0
 IsNodeFault file faults.NotFormatted = header_at (take 18 file) ≡ Err heads.NotFormatted
 IsNodeFault file (faults.Malformed place) = (header : Header) × (header_at (take 18 file) ≡ Ok header) × IsMalformedAt header.cores header.start file place
 IsNodeFault file (faults.Bad core cores start) = header_at (take 18 file) ≡ Err (heads.Bad core cores start)
 
--- what is answered of a file
+-- the result for a file
 abbrev pub Inspects : List ℕ → Result Inspected (Refused NodeFault) → Type 0
 Inspects file (Ok said) = (inspected file ≡ Ok said) × IsInspected file said
 Inspects file (Err (refused.Fault fault)) = (inspected file ≡ Err fault) × IsNodeFault file fault
@@ -68,7 +68,7 @@ Inspects file (Err refused.NoMemory) = ⊤
 
 -- ---- in the code
 
--- a refusal to open a file with its own header on a disk that does not fail
+-- a refusal to open a file by its own header, on a disk that does not fail
 abbrev pub IsBroken : OpenRefusal → Type 0
 IsBroken opens.Failed = ⊥
 IsBroken opens.NotFormatted = ⊥
@@ -76,7 +76,7 @@ IsBroken (opens.Foreign core cores start) = ⊥
 IsBroken (opens.Malformed place) = ⊤
 IsBroken opens.NoMemory = ⊤
 
--- the refusal that is told so
+-- the refusal reported as this fault
 abbrev pub refused_for : Refused NodeFault → OpenRefusal
 refused_for (refused.Fault faults.NotFormatted) = opens.NotFormatted
 refused_for (refused.Fault (faults.Malformed place)) = opens.Malformed place

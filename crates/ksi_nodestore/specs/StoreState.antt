@@ -1,4 +1,4 @@
--- A core whose facts are on a disk, and what it keeps.
+-- A core with its facts on a disk, and its invariants.
 use Rattle.std.specs.Prelude.{◌≡◌, ℕ, List, length, false}
 use Rattle.ksi_synod.specs.CorePlans.{CorePlanState}
 use Rattle.ksi_corenode.specs.declared.fact.Fact.{Fact}
@@ -8,14 +8,14 @@ use Rattle.ksi_disk.specs.declared.log.GateLog.{GateLog}
 use Rattle.ksi_disk.specs.Logs.{IsSettled}
 use Rattle.ksi_nodestore.specs.Stores.{IsFileOf}
 
--- the core, the log of its file, and how many records there are
+-- the core, the log of its file, and the number of records
 pub record StoreState (D : Type 0) : Type 0 where
   pub core : CoreState
   pub log : GateLog D
   pub records : ℕ
 
--- The store of core me of a plan with these facts: they are in the file, which is on the disk for good, and the core has
--- stored them and no others.
+-- The store of core me of a plan with these facts: they are in the file, which is durable, and the core has stored exactly
+-- these.
 pub record IsStoreOf {D : Type 0} (image : List ℕ → List ℕ) (content : D → List ℕ) (images : D → List ℕ → Type 0) (me : ℕ) (plan : CorePlanState) (facts : List Fact) (store : StoreState D) : Type 0 where
   pub mine : store.core.me ≡ me
   pub has : HasFacts image plan facts store.core
@@ -28,10 +28,10 @@ pub record IsStoreOf {D : Type 0} (image : List ℕ → List ℕ) (content : D �
 abbrev pub IsStore : {D : Type 0} → (List ℕ → List ℕ) → (content : D → List ℕ) (images : D → List ℕ → Type 0) → StoreState D → Type 0
 IsStore image content images store = (me : ℕ) × (plan : CorePlanState) × (facts : List Fact) × IsStoreOf image content images me plan facts store
 
--- it is so until a call of its disk fails
+-- this holds until a call of its disk fails
 abbrev pub IsKept : {D : Type 0} → (List ℕ → List ℕ) → (content : D → List ℕ) (images : D → List ℕ → Type 0) → StoreState D → Type 0
 IsKept image content images store = store.log.is_spent ≡ false → IsStore image content images store
 
--- the same with its disk as another
+-- the same store over another disk
 abbrev pub on_disk : {D : Type 0} → StoreState D → D → StoreState D
 on_disk store disk = record store { log = record store.log { disk = disk } }

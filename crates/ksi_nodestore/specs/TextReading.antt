@@ -1,4 +1,4 @@
--- How a spelling is read, piece by piece.
+-- Reading an encoding, piece by piece.
 use Rattle.std.specs.Int.{w32, w64, from_be_bytes}
 use Rattle.std.specs.Prelude.{◌≡◌, ℕ, zero, suc, ◌+◌, ◌≤◌, ◌==◌, nat_le, ◌&&◌, Bool, if◌then◌else◌, List, [], ◌∷◌, ◌++◌, length, take, drop, slice_index, option_map, Option, Some, None, Result, Ok, Err}
 use Rattle.ksi_imprint.specs.Reading.{imprint_at}
@@ -15,28 +15,28 @@ use Rattle.ksi_nodestore.specs.Texts.{entry_text, IsSpelled}
 abbrev pub is_name : List ℕ → Bool
 is_name bytes = nat_le 1 (length bytes) && nat_le (length bytes) most_letters && are_name_bytes bytes
 
--- a name of so many bytes in front of others; none where there are none
+-- a name of n bytes at the start of the bytes; None if there are fewer
 abbrev pub name_in : ℕ → List ℕ → Option (Option (List ℕ))
 name_in count bytes = if nat_le count (length bytes) && is_name (take count bytes) then Some (Some (take count bytes)) else None
 
 abbrev pub name_at : ℕ → List ℕ → Option (Option (List ℕ))
 name_at count bytes = if count == 0 then Some None else name_in count bytes
 
--- an item of its parts
+-- an item from its parts
 abbrev pub entry_of : (from : ℕ) → Result (List ℕ) ImprintFault → (level : ℕ) → Option (Option (List ℕ)) → Option Entry
 entry_of from (Err fault) level name = None
 entry_of from (Ok imprint) level None = None
 entry_of from (Ok imprint) level (Some name) = Some (record { origin = origins.Aggregator from; item = record { imprint = imprint; level = level; name = name } })
 
--- an item whose aggregator was read, from its imprint on
+-- the rest of an item after its aggregator, from its imprint on
 abbrev pub entry_behind : (from : ℕ) → List ℕ → Option Entry
 entry_behind from bytes = entry_of from (imprint_at (take 33 bytes)) (slice_index (drop 33 bytes) 0) (name_at (slice_index (drop 33 bytes) 1) (drop 2 (drop 33 bytes)))
 
--- the item in front of bytes
+-- the item at the start of the bytes
 unfoldable pub entry_at : List ℕ → Option Entry
 entry_at bytes = if nat_le 39 (length bytes) then entry_behind (from_be_bytes w32 (take 4 bytes)) (drop 4 bytes) else None
 
--- so many items, and no bytes behind them
+-- exactly n items, and no bytes after them
 abbrev pub more_entries : (List ℕ → Option (List Entry)) → List ℕ → Option Entry → Option (List Entry)
 more_entries others bytes None = None
 more_entries others bytes (Some entry) = option_map (λ (entries : List Entry). entry ∷ entries) (others (drop (length (entry_text entry)) bytes))
@@ -63,7 +63,7 @@ abbrev pub root_of : Result (List ℕ) ImprintFault → Option What
 root_of (Err fault) = None
 root_of (Ok imprint) = Some (Holds imprint)
 
--- what this byte says that the bytes are
+-- the kind of fact that this byte announces, read from the bytes
 abbrev pub what_at : (tag : ℕ) → List ℕ → Option What
 what_at tag bytes =
     if tag == 1 then sealed_at bytes
@@ -79,7 +79,7 @@ fact_at bytes =
     then option_map (fact_of (from_be_bytes w64 (take 8 (drop 1 bytes)))) (what_at (slice_index bytes 0) (drop 9 bytes))
     else None
 
--- an item more was read behind others: the place behind it; none where none is there
+-- one more item was read, and the place after it; None if there is none
 abbrev pub IsMore : List ℕ → ℕ → List Entry → List Entry → Option ℕ → Type 0
 IsMore bytes place old new None = entry_at (drop place bytes) ≡ None
 IsMore bytes place old new (Some next) =

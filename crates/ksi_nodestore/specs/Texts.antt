@@ -1,4 +1,4 @@
--- How a fact is spelled, as the content of a record. Numbers are most significant byte first.
+-- The encoding of a fact, as the content of a record. Numbers are most significant byte first.
 use Rattle.std.specs.Int.{w32, w64, to_be_bytes}
 use Rattle.std.specs.List.{All, flat_map}
 use Rattle.std.specs.Prelude.{◌≡◌, ℕ, ◌<◌, ◌^◌, true, List, [], ◌∷◌, ◌++◌, length, Option, Some, None, IfSome}
@@ -17,7 +17,7 @@ abbrev pub number_of : Origin → ℕ
 number_of (origins.Request number) = number
 number_of (origins.Aggregator from) = from
 
--- how long the name is, in one byte, and the name; zero where there is none
+-- the length of the name in one byte, and the name; zero if there is none
 abbrev pub name_text : Option (List ℕ) → List ℕ
 name_text None = 0 ∷ []
 name_text (Some name) = length name ∷ name
@@ -41,11 +41,11 @@ tag_of (Promised ballot) = 3
 tag_of (Cast vote) = 4
 tag_of (Holds root) = 5
 
--- a fact: what it is in one byte, its second in eight, then what is stored
+-- a fact: its kind in one byte, its second in eight, then its data
 abbrev pub fact_text : Fact → List ℕ
 fact_text fact = tag_of fact.what ∷ (to_be_bytes w64 fact.second ++ what_text fact.what)
 
--- WHAT HAS A SPELLING
+-- FACTS THAT HAVE AN ENCODING
 
 -- an item that an aggregator submitted
 pub record IsSpelled (entry : Entry) : Type 0 where
@@ -62,13 +62,13 @@ FitsWhat (Promised ballot) = ballot < 2 ^ 64
 FitsWhat (Cast vote) = (vote.ballot < 2 ^ 64) × IsImprint vote.imprint
 FitsWhat (Holds root) = IsImprint root
 
--- the bytes are the spelling of this fact, each number of which has room
+-- the bytes encode this fact, each of whose numbers fits its field
 pub record IsTextOf (fact : Fact) (bytes : List ℕ) : Type 0 where
   pub second : fact.second < 2 ^ 64
   pub what : FitsWhat fact.what
   pub text : bytes ≡ fact_text fact
 
--- the fact whose spelling the bytes are, none where they are no fact's
+-- the fact that the bytes encode, or None
 abbrev pub IsReadOf : List ℕ → Option Fact → Type 0
 IsReadOf bytes None = (fact : Fact) → IsTextOf fact bytes → ⊥
 IsReadOf bytes (Some fact) = IsTextOf fact bytes

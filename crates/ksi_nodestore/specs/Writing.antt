@@ -1,4 +1,4 @@
--- Which facts are spelled, and how many bytes they have at most.
+-- The facts that are encoded, and the greatest length of their encodings.
 use Rattle.std.specs.Prelude.{ℕ, ◌+◌, ◌*◌, ◌≤◌, length}
 use Rattle.ksi_aggtree.specs.Rounds.{most_items}
 use Rattle.ksi_corenode.specs.declared.fact.What.{What}
@@ -13,7 +13,7 @@ most_bytes (Promised ballot) = 50
 most_bytes (Cast vote) = 50
 most_bytes (Holds root) = 50
 
--- items are as many as a round has at most, and aggregators submitted them
+-- there are at most as many items as a round holds, and aggregators submitted them
 abbrev pub CanSpell : What → Type 0
 CanSpell (Sealed items) = (length items ≤ most_items) × AreSubmitted items
 CanSpell (Tried ballot) = Unit {0}

@@ -46,7 +46,7 @@ pub(crate) fn append_fact<D: Disk>(
     log.append(record_)
 }
 
-/// Appends the record of a fact, where there is one.
+/// Appends the record of a fact, if there is one.
 pub(crate) fn keep<D: Disk>(
     log: &mut GateLog<D>,
     record_: Option<Record>,

@@ -15,7 +15,7 @@ use std::alloc::Global;
 /// How many bytes an item without a name has.
 const NAMELESS: usize = 39;
 
-/// So many items, and no bytes behind them; none where the bytes are not that.
+/// This many items, and no bytes behind them; none where the bytes are not that.
 pub(crate) fn read_entries(
     alloc: Global,
     count: u32,
@@ -83,7 +83,7 @@ pub(crate) fn size_of(entry: &Entry) -> usize
     6 + imprint + name
 }
 
-/// The item in front of bytes, none where there is none.
+/// The item at the start of bytes, or none.
 #[tactic(auto, unfolding(crate::specs::TextReading::entry_at))]
 fn read_entry(bytes: &[u8]) -> Option<Entry>
     ensures read { result ≡ entry_at bytes.now }
@@ -118,7 +118,7 @@ fn entry_of(from: u32, imprint: &[u8], level: u8, name: Option<Option<Name>>) ->
     })
 }
 
-/// A name of so many bytes in front of others; none where there are none.
+/// A name of this many bytes at the start of others, or none.
 fn read_name(count: u8, bytes: &[u8]) -> Option<Option<Name>>
     ensures read { result ≡ name_at count bytes.now }
     ensures sound { IfSome result (λ name. IfSome name IsName × (take (length (name_text name)) (count ∷ bytes.now) ≡ name_text name)) }

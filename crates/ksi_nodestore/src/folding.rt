@@ -11,15 +11,16 @@ ghost use Rattle.ksi_nodestore.specs.Opens.{FoldsAs};
 use crate::{OpenRefusal, read_fact};
 use ksi_corenode::laws::{facts_one_by_one, one_core_of_facts};
 use ksi_corenode::{Core, CorePlan};
-use ksi_imprint::{Bytes, Compress, NoMemory};
+use ksi_disk::Records;
+use ksi_imprint::{Compress, NoMemory};
 use std::alloc::Global;
 
-/// The core of the facts that the records spell, which stand behind a header and end at this place.
+/// The core of the facts that the records spell, which follow a header and end at this place.
 pub(crate) fn fold_records<C: Compress>(
     alloc: Global,
     me: u8,
     plan: &CorePlan,
-    records: &[Bytes],
+    records: &Records,
     end: u64,
 ) -> Result<Core<C>, OpenRefusal>
     requires member { me < plan.now.cores }
@@ -31,7 +32,7 @@ pub(crate) fn fold_records<C: Compress>(
     let mut core = Core::new(alloc, me, plan);
     let mut place = 18;
     'folding: for k in 0..records.len() {
-        let content = records[k].as_slice();
+        let content = records.get(k);
         if !fold_record(alloc, &mut core, content)? {
             return Err(OpenRefusal::Malformed(place));
         }

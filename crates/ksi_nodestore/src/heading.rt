@@ -10,7 +10,7 @@ use crate::{OpenRefusal, header};
 use ksi_disk::Disk;
 use ksi_synod::CorePlan;
 
-/// Reads the header of a file of so many bytes, and looks whether it is that of core `me` of a plan.
+/// Reads the header of a file of this many bytes, and looks whether it is that of core `me` of a plan.
 pub(crate) fn read_header<D: Disk>(
     me: u8,
     plan: &CorePlan,

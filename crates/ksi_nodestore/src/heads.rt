@@ -4,7 +4,7 @@ pub const HEADER: usize = 18;
 /// The first bytes of a node file.
 pub(crate) const MAGIC: [u8; 8] = *b"KSINODE1";
 
-/// Whose file it is: a core's, one of so many, and the first second of their plan.
+/// The owner of a file: a core, the number of cores of its plan, and the plan's first second.
 #[derive(Clone, Copy, Debug, PartialEq, Eq)]
 pub struct Header {
     pub core: u8,

@@ -10,10 +10,10 @@ use ksi_disk::MemDisk;
 use ksi_imprint::{Compress, NoMemory};
 
 impl<C: Compress> NodeStore<C, MemDisk> {
-    /// From now on the disk takes so many bytes, and so many writes and syncs.
+    /// From now on the disk takes this many bytes, and this many writes and syncs.
     ///
     /// # Errors
-    /// `NoMemory`: all is as it was.
+    /// `NoMemory`: nothing has changed.
     pub fn make_room(&mut self, room: usize, turns: usize) -> Result<(), NoMemory>
         ensures made { OnOk result (self.new ≡ on_disk self.old (with_room self.old.log.disk room turns)) }
         ensures unchanged { OnErr result (self.new ≡ self.old) }

@@ -70,12 +70,12 @@ pub fn a_new_file_has_no_facts()
     records_are_read_again();
 }
 
-/// A file of facts is opened, unless the disk fails or memory is wanting.
+/// A file of facts is opened, unless the disk fails or memory runs out.
 pub fn files_of_facts_are_opened()
     ensures { (me : ℕ) (plan : CorePlanState) (facts : List Fact) (file : List ℕ) (refusal : OpenRefusal) → IsFileOf me plan facts file → IsRefused me plan file refusal → IsOutside refusal }
 {}
 
-/// A file is refused for one reason, but for a disk that failed or want of memory.
+/// A file is refused for one reason, unless the disk fails or memory runs out.
 pub fn files_are_refused_for_one_reason()
     ensures { (me : ℕ) (plan : CorePlanState) (file : List ℕ) (one other : OpenRefusal) → IsRefused me plan file one → IsRefused me plan file other → (IsOutside one → ⊥) → (IsOutside other → ⊥) → one ≡ other }
 {}

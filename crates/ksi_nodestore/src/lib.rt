@@ -1,13 +1,14 @@
-//! A core whose facts are on a disk, so that a crash at any moment is a restart.
+//! A core with its facts on a disk: after a crash at any moment, reopening the file gives the core as after a restart.
 //!
-//! A fact is spelled as the content of one record of `ksi_disk`, behind a header that says whose file it is. [`format`] makes
-//! an empty file, [`NodeStore::open`] a store of the facts in one, and [`NodeStore::take`] takes an event of the core: room
-//! for its record first, then the core's step, then the record, and only then the step is handed out. So want of memory
-//! leaves all as it was. After a failure of the disk the store is spent: its file is to be opened again.
+//! Each fact is encoded as the content of one record of `ksi_disk`, after a header that identifies the core and its plan.
+//! [`format`] creates an empty file, and [`NodeStore::open`] a store of the facts in one. [`NodeStore::take`] takes an event of
+//! the core: it reserves the record, makes the core's step, appends the record, and only then returns the step. So `NoMemory`
+//! leaves everything unchanged. After a failure of the disk the store is spent: its file must be opened again.
 //!
-//! The layers above rely on three things. What is opened is the core of the facts in the file, and each refusal says truly
-//! what is wrong with it. For a crash at any moment each image is a file of the facts acknowledged before, with that of
-//! the event in work or without it. A core that is made of the facts in such a file is the core after a restart ([`laws`]).
+//! The layers above rely on three properties. The core that is opened is that of the facts in the file, and each refusal states
+//! correctly what is wrong with the file. After a crash at any moment each image is a file of the facts acknowledged before,
+//! with or without that of the event in progress. A core rebuilt from the facts in such a file is the core after a restart
+//! ([`laws`]).
 //!
 //! ```text
 //! format(0, &plan, &mut disk)?;

@@ -3,8 +3,9 @@ ghost use Rattle.ksi_nodestore.specs.Headers.{good_header, header_at, IsGood};
 
 use crate::heads::{HEADER, Header, HeaderFault, MAGIC};
 use crate::numbers::number8;
+use ksi_synod::{PLAN_SECONDS, TOO_LATE};
 
-/// The header in front of bytes.
+/// The header at the start of bytes.
 pub fn header(bytes: &[u8]) -> Result<Header, HeaderFault>
     ensures head { result ≡ header_at bytes.now }
     ensures bounds { IfOk result IsGood }
@@ -25,7 +26,7 @@ fn good(core: u8, cores: u8, start: u64) -> Result<Header, HeaderFault>
     ensures head { result ≡ good_header core cores start }
     ensures bounds { IfOk result IsGood }
 {
-    if core < cores && cores <= 9 && start <= (1 << 63) - (1 << 24) {
+    if core < cores && cores <= 9 && start <= TOO_LATE - PLAN_SECONDS {
         Ok(Header { core, cores, start })
     } else {
         Err(HeaderFault::Bad(core, cores, start))

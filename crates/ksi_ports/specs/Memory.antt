@@ -40,7 +40,7 @@ up_to most (Some bytes) = if nat_le (length bytes) most then Ok bytes else Err T
 abbrev pub load_answer : StoredFiles → List ℕ → ℕ → Result (List ℕ) LoadRefusal
 load_answer files name most = if is_listed files.failing files.counts.calls then Err Failed else up_to most (held_in files.entries name)
 
--- the counts after a load with this answer: where memory is wanting, no call is counted and nothing is taken
+-- the counts after a load with this answer: if memory ran out, no call is counted and nothing is taken
 abbrev pub counts_after_load : Counts → ℕ → Result (List ℕ) LoadRefusal → Counts
 counts_after_load c most (Ok bytes) = record c { calls = count_up 1 c.calls; taken = count_up (length bytes) c.taken; last_taken = length bytes }
 counts_after_load c most (Err Failed) = record c { calls = count_up 1 c.calls; faults = count_up 1 c.faults; load_faults = count_up 1 c.load_faults; last_taken = 0 }
@@ -51,7 +51,7 @@ counts_after_load c most (Err NoMemory) = record c { last_taken = 0 }
 abbrev pub after_load : StoredFiles → ℕ → Result (List ℕ) LoadRefusal → StoredFiles
 after_load files most answer = record files { counts = counts_after_load files.counts most answer }
 
--- the answer with ample memory, or want of memory in the place of bytes
+-- the answer with ample memory, or out of memory in place of bytes
 abbrev pub LoadAnswers : Result (List ℕ) LoadRefusal → Result (List ℕ) LoadRefusal → Type 0
 LoadAnswers ample (Ok bytes) = ample ≡ Ok bytes
 LoadAnswers ample (Err Failed) = ample ≡ Err Failed
@@ -92,7 +92,7 @@ pub record StoredOutput : Type 0 where
 abbrev pub no_output : ℕ → StoredOutput
 no_output room = record { written = []; room = room; cuts = []; puts = 0; given = 0; faults = 0 }
 
--- the same, and the put of this number, counted from 0, is to fail after so many bytes
+-- the same, and the put of this number, counted from 0, is to fail after this many bytes
 abbrev pub with_cut : StoredOutput → ℕ → ℕ → StoredOutput
 with_cut output call after = record output { cuts = record { call = call; after = after } ∷ output.cuts }
 
@@ -105,7 +105,7 @@ cut_at (c ∷ cs) call = if c.call == call then Some c.after else cut_at cs call
 abbrev pub put_cut : StoredOutput → List ℕ → Option ℕ
 put_cut output piece = if nat_lt output.room (length output.written + length piece) then Some 0 else cut_at output.cuts output.puts
 
--- the output after a put that fails after so many bytes of its piece, or does not fail
+-- the output after a put that fails after this many bytes of its piece, or does not fail
 abbrev pub put_until : StoredOutput → List ℕ → Option ℕ → StoredOutput
 put_until output piece None = record output { puts = count_up 1 output.puts; given = count_up (length piece) output.given; written = output.written ++ piece }
 put_until output piece (Some k) = record output { puts = count_up 1 output.puts; given = count_up (length piece) output.given; written = output.written ++ take k piece; faults = count_up 1 output.faults }

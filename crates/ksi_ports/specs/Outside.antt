@@ -1,4 +1,4 @@
--- What the calls of files and of a sink answer, and what they leave.
+-- The results of calls on files and on an output, and the state after them.
 use Rattle.std.specs.Prelude.{◌≡◌, ◌≢◌, ℕ, ◌+◌, ◌-◌, ◌^◌, ◌≤◌, ◌<◌, min, List, ◌++◌, length, take, Option, Some, Result, Ok, Err}
 use Rattle.ksi_ports.specs.declared.counts.Counts.{Counts}
 use Rattle.ksi_ports.specs.declared.files.LoadRefusal.{LoadRefusal}
@@ -15,7 +15,7 @@ count_up n before = min (before + n) (2 ^ 64 - 1)
 abbrev pub no_calls : Counts
 no_calls = record { calls = 0; saves = 0; faults = 0; load_faults = 0; taken = 0; last_taken = 0 }
 
--- A count has risen by so much or more. One that stands at 2 ^ 64 - 1 counts as risen by any number.
+-- A count has risen by n or more. A count of 2 ^ 64 - 1 counts as risen by any number.
 abbrev pub RoseBy : ℕ → ℕ → ℕ → Type 0
 RoseBy n before now = count_up n before ≤ now
 
@@ -28,7 +28,7 @@ pub record Raises (before now : ℕ) : Type 0 where
   pub later : before ≤ now
   pub rose : Rose before now
 
--- a load's count of calls: it goes up by one, and by no more than one where memory was wanting
+-- a load's count of calls: it rises by one, and by at most one if memory ran out
 abbrev pub LoadCalls : {T : Type 0} → ℕ → ℕ → Result T LoadRefusal → Type 0
 LoadCalls before now (Ok bytes) = now ≡ count_up 1 before
 LoadCalls before now (Err Failed) = now ≡ count_up 1 before
@@ -42,13 +42,13 @@ LoadCounts before now (Err Failed) = Raises before now
 LoadCounts before now (Err TooLong) = now ≡ before
 LoadCounts before now (Err NoMemory) = now ≡ before
 
--- a tally has risen by so many and by no more, up to 2 ^ 64 - 1
+-- a count has risen by exactly this number, up to 2 ^ 64 - 1
 pub record TakesExactly (n before now : ℕ) : Type 0 where
   pub later : before ≤ now
   pub rose : RoseBy n before now
   pub no_more : now ≤ before + n
 
--- a tally did not fall, and has risen by so many at most
+-- a count did not fall, and has risen by at most this number
 pub record TakesUpTo (n before now : ℕ) : Type 0 where
   pub later : before ≤ now
   pub no_more : now ≤ before + n
@@ -81,7 +81,7 @@ SaveCalls before now (Ok u) = now ≡ count_up 1 before
 SaveCalls before now (Err saves.Failed) = now ≡ count_up 1 before
 SaveCalls before now (Err saves.NoMemory) = now ≤ count_up 1 before
 
--- the count of saves after a save: it goes up by one, and stays where memory was wanting
+-- the count of saves after a save: it rises by one, and stays if memory ran out
 abbrev pub SavesCounted : ℕ → ℕ → Result (Unit {0}) SaveRefusal → Type 0
 SavesCounted before now (Ok u) = now ≡ count_up 1 before
 SavesCounted before now (Err saves.Failed) = now ≡ count_up 1 before
@@ -93,16 +93,16 @@ SaveCounts before now (Ok u) = now ≡ before
 SaveCounts before now (Err saves.Failed) = Raises before now
 SaveCounts before now (Err saves.NoMemory) = now ≡ before
 
--- all names but this one hold what they held
+-- all names but this one have the same content as before
 abbrev pub OthersStay : List ℕ → Held → Held → Type 0
 OthersStay name old new = (other : List ℕ) → other ≢ name → new other ≡ old other
 
--- what a save leaves: the bytes under the name, or what no one knows under the name alone, or what was
+-- the state after a save: the bytes under the name, or an unknown content under this name alone, or no change
 abbrev pub SaveLeaves : List ℕ → List ℕ → Held → Held → Result (Unit {0}) SaveRefusal → Type 0
 SaveLeaves name bytes old new (Ok u) = new ≡ with_file old name bytes
 SaveLeaves name bytes old new (Err saves.Failed) = OthersStay name old new
 SaveLeaves name bytes old new (Err saves.NoMemory) = new ≡ old
 
--- the second is the first and a beginning of the piece, which may be none of it or all
+-- the second is the first with a prefix of the piece appended, possibly empty or the whole piece
 abbrev pub ExtendsByFront : List ℕ → List ℕ → List ℕ → Type 0
 ExtendsByFront old piece new = (k : ℕ) × (new ≡ old ++ take k piece)

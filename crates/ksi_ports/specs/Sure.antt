@@ -17,7 +17,7 @@ pub record SureStored : Type 0 where
 abbrev pub no_sure_files : SureStored
 no_sure_files = record { entries = []; counts = no_calls }
 
--- the bytes of the newest file of each name, and no bytes where there is none
+-- the bytes of the newest file of each name, and no bytes if there is none
 abbrev pub empty_where_none : List Entry → Held
 empty_where_none entries = λ name. Some (unwrap_or (held_in entries name) [])
 

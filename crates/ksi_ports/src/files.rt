@@ -12,7 +12,7 @@ pub enum LoadRefusal {
     Failed,
     /// The file has more bytes than were allowed.
     TooLong,
-    /// Memory was wanting.
+    /// Memory ran out.
     NoMemory,
 }
 
@@ -32,7 +32,7 @@ impl From<NoMemory> for LoadRefusal {
 pub enum SaveRefusal {
     /// The file could not be written, and the count of faults rose. What it holds is unknown.
     Failed,
-    /// Memory was wanting. No file changed.
+    /// Memory ran out. No file changed.
     NoMemory,
 }
 
@@ -80,9 +80,9 @@ pub trait Files {
     ///
     /// # Errors
     ///
-    /// `Failed` where the file could not be read: the counts of faults and of failed loads rise. `TooLong` where it has more
-    /// than `most` bytes: `most + 1` were taken. `NoMemory` where memory was wanting: the call may be left out of the count
-    /// of calls. No load takes more than `most + 1` bytes.
+    /// `Failed` if the file could not be read: the counts of faults and of failed loads rise. `TooLong` if it has more
+    /// than `most` bytes: `most + 1` were taken. `NoMemory` if memory ran out: the call may be missing from the count of
+    /// calls. No load takes more than `most + 1` bytes.
     fn load(&mut self, alloc: Global, name: &str, most: usize) -> Result<Bytes, LoadRefusal>
         ensures later { calls self.old ≤ calls self.new }
         ensures called { LoadCalls (calls self.old) (calls self.new) result }
@@ -96,12 +96,12 @@ pub trait Files {
         ensures lacks { IsTrue tells → LoadLacks most (held self.old name.now) (calls self.old) (calls self.new) result }
         ensures stays { held self.new ≡ held self.old };
 
-    /// Makes these the bytes of the file, which need not have been there.
+    /// Makes these the bytes of the file, which need not have existed.
     ///
     /// # Errors
     ///
-    /// `Failed` where the file could not be written: the count of faults rises, and what the file holds is unknown.
-    /// `NoMemory` where memory was wanting: nothing is written, and the call may be left out of the count of calls.
+    /// `Failed` if the file could not be written: the count of faults rises, and the content of the file is unknown.
+    /// `NoMemory` if memory ran out: nothing is written, and the call may be missing from the count of calls.
     fn save(&mut self, alloc: Global, name: &str, bytes: &[u8]) -> Result<(), SaveRefusal>
         ensures later { calls self.old ≤ calls self.new }
         ensures called { SaveCalls (calls self.old) (calls self.new) result }

@@ -10,7 +10,7 @@ use std::io::Read;
 use std::marker::Model;
 use std::{fs, io, rt};
 
-/// The files of a system. Nothing is told of what they hold.
+/// The files of a system. Their contents are not known.
 #[derive(Drop)]
 pub struct HostFiles<'a, R: rt::Files> {
     runtime: &'a R,

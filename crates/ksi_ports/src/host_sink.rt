@@ -8,7 +8,7 @@ use crate::{Sink, SinkFailed};
 use std::io::Write;
 use std::marker::Model;
 
-/// Output over a writer. Nothing is told of what was written.
+/// Output over a writer. The bytes that were written are not known.
 #[derive(Drop)]
 pub struct HostSink<W: Write> {
     writer: W,

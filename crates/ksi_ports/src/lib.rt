@@ -1,17 +1,17 @@
-//! The files and the output that a run is lent: traits that count calls and faults, and implementations in memory and over
+//! The files and the output that a run borrows: traits that count calls and faults, and implementations in memory and over
 //! std.
 //!
-//! The layers above rely on four things. Where content is told, a load that gives bytes gives exactly what is held under the
-//! name, a save changes what is held under that name alone, and a put appends its piece, or a beginning of it where it failed.
-//! `Failed` and `SinkFailed` come only where the count of faults rose, and every other answer leaves it; loads that failed
-//! are counted by themselves too. A load that gives bytes takes as many, one that is `TooLong` takes one byte more than
-//! allowed, and no load takes more than that. Each load, save and put raises its count of calls by one; a load or save that
-//! lacks memory may leave it. Saves that did not lack memory are counted by themselves, as are the bytes given to puts and
-//! those that the last load took.
+//! The layers above rely on four things. First, if contents are known, a load that returns bytes returns exactly those that
+//! the name has, a save changes only those, and a put appends its piece, or a prefix of it if it fails. Second, `Failed`
+//! and `SinkFailed` occur only if the count of faults rose, and every other result leaves it unchanged; failed loads also
+//! have a count of their own. Third, the count `taken` rises by the number of bytes that a load returns, by one more than
+//! the limit for a load that is `TooLong`, and never by more than that. Fourth, each load, save and put raises its count of
+//! calls by one; a load or save that runs out of memory may leave it. Saves that did not run out of memory have a count of
+//! their own, as have the bytes given to puts and the bytes of the last load.
 //!
-//! A piece is at most as long as the sink is free for, which is a condition of each put. `MemFiles` and `MemSink` fail where
-//! they are told to; `MemFiles` also where the name is not held, and `MemSink` where the piece passes its room. `SureFiles`
-//! and `SureSink` never fail: a name that is not held reads as empty there.
+//! A piece is at most as long as the sink is `free` for, which is a condition of each put. `MemFiles` and `MemSink` fail at
+//! the calls that they are told to fail. `MemFiles` also fails if it does not have the name, and `MemSink` if the piece
+//! exceeds its room. `SureFiles` and `SureSink` never fail: a missing name reads as empty there.
 //!
 //! ```text
 //! let mut files = MemFiles::new(alloc, failing);

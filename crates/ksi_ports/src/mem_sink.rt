@@ -7,15 +7,15 @@ use ksi_imprint::NoMemory;
 use std::alloc::Global;
 use std::marker::Model;
 
-/// The put of this number, counted from 0, is to fail after so many bytes of its piece.
+/// The put of this number, counted from 0, is to fail after this many bytes of its piece.
 #[derive(Drop)]
 pub(crate) struct Cut {
     call: u64,
     after: usize,
 }
 
-/// Output in memory that has room for so many bytes, with a list of the puts that are to fail. A put that passes the room
-/// fails too, and writes nothing.
+/// Output in memory that has room for a number of bytes, with a list of the puts that are to fail. A put that exceeds the
+/// room fails too, and writes nothing.
 #[derive(Drop)]
 pub struct MemSink {
     written: Vec<u8>,
@@ -46,7 +46,7 @@ impl Model for MemSink {
 }
 
 impl MemSink {
-    /// Takes room for so many bytes.
+    /// Output with room for this many bytes.
     pub fn new(alloc: Global, room: usize) -> Result<Self, NoMemory>
         ensures { IfOk result (λ sink. sink ≡ no_output room) }
     {
@@ -60,8 +60,8 @@ impl MemSink {
         })
     }
 
-    /// Lets the put of that number, counted from 0, fail after so many bytes of its piece, or after all where it has fewer.
-    /// Of cuts of one number the newest counts. Where memory is wanting, nothing changes.
+    /// Lets the put of that number, counted from 0, fail after this many bytes of its piece, or after all if it has
+    /// fewer. Of cuts of one number the newest counts. If memory runs out, nothing changes.
     pub fn cut(&mut self, call: usize, after: usize) -> Result<(), NoMemory>
         ensures ok { OnOk result (self.new ≡ with_cut self.old call after) }
         ensures no_memory { OnErr result (self.new ≡ self.old) }

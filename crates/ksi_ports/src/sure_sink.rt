@@ -8,7 +8,7 @@ use ksi_imprint::NoMemory;
 use std::alloc::Global;
 use std::marker::Model;
 
-/// Output in memory whose puts do not fail: it takes so many bytes, for which it has room from the start.
+/// Output in memory whose puts do not fail: it takes a number of bytes, for which it has room from the start.
 #[derive(Drop)]
 pub struct SureSink {
     written: Vec<u8>,
@@ -34,7 +34,7 @@ impl Model for SureSink {
 }
 
 impl SureSink {
-    /// Takes room for so many bytes.
+    /// Output with room for this many bytes.
     pub fn new(alloc: Global, room: usize) -> Result<Self, NoMemory>
         ensures { IfOk result (λ sink. sink ≡ sure_output room) }
     {

@@ -1,4 +1,4 @@
--- Which bytes are which publications file, the first fault of bytes that are none, and a file as it is written.
+-- Which bytes encode which publications file, the first fault of all other bytes, and a file as it is written.
 use Rattle.std.specs.Prelude.{◌≡◌, ℕ, ◌==◌, ◌⊎◌, List, [], ◌∷◌, ◌++◌, map, if◌then◌else◌, codes}
 use Rattle.ksi_tlv.specs.Spelling.{Tlv, plain}
 use Rattle.ksi_tlv.specs.Numerals.{numeral}
@@ -11,6 +11,7 @@ use Rattle.ksi_tlv.specs.Published.{recorded_in, record_elements}
 use Rattle.ksi_publications.specs.declared.fault.PublicationsFault.{PublicationsFault}
 use Rattle.ksi_publications.specs.declared.fault.PublicationsFault.TheVariants as answers
 use Rattle.ksi_publications.specs.Tables.{file_table}
+use Rattle.ksi_publications.specs.Kinds.{header_kind, record_kind}
 
 -- the eight bytes that a file begins with
 abbrev pub magic : List ℕ
@@ -19,10 +20,10 @@ magic = codes "KSIPUBLF"
 -- the time and the hash of each publication record, in order
 abbrev pub pairs_of : List PlacedTlv → List (ℕ × List ℕ)
 pairs_of [] = []
-pairs_of (at ∷ es) = if at.element.kind == 1795 then recorded_in at ∷ pairs_of es else pairs_of es
+pairs_of (at ∷ es) = if at.element.kind == record_kind then recorded_in at ∷ pairs_of es else pairs_of es
 
--- The bytes are a publications file with these published times and hashes: behind the magic stand elements that may
--- stand there, in any order, and the pairs are those of its records in order.
+-- The bytes are a publications file with these published times and hashes: after the magic come valid elements in any
+-- order, and the pairs are those of its records, in order.
 pub record IsPublications (bytes : List ℕ) (pairs : List (ℕ × List ℕ)) : Type 0 where
   pub rest : List ℕ
   pub begins : bytes ≡ magic ++ rest
@@ -32,7 +33,7 @@ pub record IsPublications (bytes : List ℕ) (pairs : List (ℕ × List ℕ)) : 
 
 -- ---- faults
 
--- the fault of a file by that of an element; the last four are faults of signatures alone
+-- the fault of a file, from the fault of an element; the last four occur only in signatures
 abbrev pub IsNamed : ElementFault → PublicationsFault → Type 0
 IsNamed (faults.Tlv place) fault = fault ≡ answers.Tlv place
 IsNamed (faults.RefusedElement kind place) fault = fault ≡ answers.RefusedElement kind place
@@ -52,7 +53,7 @@ pub record IsOtherFile (bytes : List ℕ) (fault : PublicationsFault) : Type 0 w
   pub begins : (rest : List ℕ) → bytes ≡ magic ++ rest → ⊥
   pub named : fault ≡ answers.Magic
 
--- the first fault stands behind the magic; where the header is missing, its parent has place 0
+-- the first fault is after the magic; if the header is missing, its parent has place 0
 pub record IsFaultInside (bytes : List ℕ) (fault : PublicationsFault) : Type 0 where
   pub rest : List ℕ
   pub begins : bytes ≡ magic ++ rest
@@ -66,10 +67,10 @@ IsPublicationsFault bytes fault = IsOtherFile bytes fault ⊎ IsFaultInside byte
 -- ---- as it is written
 
 abbrev pub header_element : ℕ → Tlv
-header_element creation = plain 1793 (texts (plain 1 (numeral 1) ∷ plain 2 (numeral creation) ∷ []))
+header_element creation = plain header_kind (texts (plain 1 (numeral 1) ∷ plain 2 (numeral creation) ∷ []))
 
 abbrev pub record_element : ℕ × List ℕ → Tlv
-record_element pair = plain 1795 (texts (record_elements pair.0 pair.1))
+record_element pair = plain record_kind (texts (record_elements pair.0 pair.1))
 
 -- the magic, a header of version 1, and the records without references
 abbrev pub publications_text : ℕ → List (ℕ × List ℕ) → List ℕ

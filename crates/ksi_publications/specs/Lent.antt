@@ -1,4 +1,4 @@
--- What a lent publications file shows.
+-- The value of a borrowed publications file.
 use Rattle.std.specs.Prelude.{ℕ, List}
 use Rattle.ksi_tlv.specs.Walking.{elements}
 use Rattle.ksi_tlv.specs.Inside.{whole}

@@ -1,6 +1,7 @@
 pub use Rattle.ksi_tlv.specs.Table
 pub use Rattle.ksi_tlv.specs.Valid
 pub use Rattle.ksi_tlv.specs.Published
+pub mod Kinds
 pub mod Tables
 pub mod File
 pub mod Reading

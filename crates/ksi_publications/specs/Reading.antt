@@ -1,5 +1,5 @@
--- The published times and hashes of bytes, or their first fault. The law `publications_are_read` says that these are those
--- of `File`.
+-- The published times and hashes of bytes, or their first fault. The law `publications_are_read` says that these are the
+-- ones in `File`.
 use Rattle.std.specs.Prelude.{ℕ, ◌==◌, List, [], ◌∷◌, Option, Some, None, Result, Ok, Err, if◌then◌else◌}
 use Rattle.ksi_tlv.specs.Walking.{elements}
 use Rattle.ksi_tlv.specs.declared.grammar.fault.ElementFault.{ElementFault}
@@ -12,13 +12,13 @@ use Rattle.ksi_publications.specs.declared.fault.PublicationsFault.TheVariants a
 use Rattle.ksi_publications.specs.Tables.{file_table}
 use Rattle.ksi_publications.specs.File.{magic, pairs_of}
 
--- what stands behind a beginning, where the bytes begin with it
+-- the bytes after a prefix, if the bytes begin with it
 abbrev pub behind : List ℕ → List ℕ → Option (List ℕ)
 behind [] bytes = Some bytes
 behind (b ∷ front) [] = None
 behind (b ∷ front) (c ∷ bytes) = if b == c then behind front bytes else None
 
--- the fault of a file by that of an element; the last four are faults of signatures alone, and do not come
+-- the fault of a file, from the fault of an element; the last four occur only in signatures
 abbrev pub name_of : ElementFault → PublicationsFault
 name_of (faults.Tlv place) = answers.Tlv place
 name_of (faults.RefusedElement kind place) = answers.RefusedElement kind place

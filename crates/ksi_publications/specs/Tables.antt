@@ -5,6 +5,7 @@ use Rattle.ksi_tlv.specs.Table.{Verdict, Table, exactly_once, at_most_once, any_
 use Rattle.ksi_tlv.specs.Containing.{inner_verdict}
 use Rattle.ksi_tlv.specs.Contents.{passes, number_in, time_in}
 use Rattle.ksi_tlv.specs.Published.{record_table}
+use Rattle.ksi_publications.specs.Kinds.{header_kind, record_kind, certificate_kind, file_signature_kind}
 
 abbrev pub header_content : PlacedTlv → Verdict
 header_content at =
@@ -17,9 +18,8 @@ abbrev pub header_table : Table
 header_table = record { slots = exactly_once 1 ∷ exactly_once 2 ∷ at_most_once 3 ∷ []; refused = []; content = header_content }
 
 abbrev pub file_content : PlacedTlv → Verdict
-file_content at = if at.element.kind == 1793 then inner_verdict header_table at else inner_verdict record_table at
+file_content at = if at.element.kind == header_kind then inner_verdict header_table at else inner_verdict record_table at
 
--- what follows the magic: 0x701 header, 0x703 publication records; 0x702 and 0x704, certificates and the file's
--- signature, are refused
+-- after the magic: a header and publication records; certificates and the file's signature are refused
 abbrev pub file_table : Table
-file_table = record { slots = exactly_once 1793 ∷ any_number 1795 ∷ []; refused = 1794 ∷ 1796 ∷ []; content = file_content }
+file_table = record { slots = exactly_once header_kind ∷ any_number record_kind ∷ []; refused = certificate_kind ∷ file_signature_kind ∷ []; content = file_content }

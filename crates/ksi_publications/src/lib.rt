@@ -1,12 +1,11 @@
-//! Publications files: the root hashes of calendar trees that were published, each with its time. A file is eight
-//! bytes of magic, a header, and publication records, in any order: Guardtime's published format, as docs/FORMATS.md
-//! tells it.
+//! Publications files: the published root hashes of calendar trees, each with its time. A file is eight bytes of magic,
+//! then a header and publication records in any order: Guardtime's published format, described in docs/FORMATS.md.
 //!
-//! A contract sees [`Publications`] as its list of times and hashes, in the order of the file. The layer above may rely
-//! on this: [`read`] gives exactly the list of the file that the bytes are, or the first fault in reading order, which
-//! it finds without taking memory; [`PublicationsView`] is that file lent from its bytes, without memory; `find` gives the
-//! first hash of a time, of either, and [`Published`] is what both are to a check; and what [`write`] gives is read again
-//! where the times are below 2^63.
+//! In contracts [`Publications`] is its list of times and hashes, in the order of the file. The layer above may rely on
+//! this: [`read`] returns exactly the list of the file that the bytes encode, or the first fault in reading order, which
+//! it finds without allocating memory; [`PublicationsView`] borrows that file from its bytes and allocates no memory;
+//! `find` of either returns the first hash of a time, and the checks take either as [`Published`]; and if the times are
+//! below 2^63, reading the result of [`write`] returns what was written.
 //!
 //! ```text
 //! let file = write(alloc, creation, &[(time, root)])?;

@@ -16,11 +16,11 @@ use ksi_tlv::laws::numeral_is_read;
 use std::alloc::Global;
 
 /// A publications file of version 1 with these published times and hashes in this order, without references. Times are
-/// seconds of Unix time. Where the creation time and all others are below 2^63, the file is read again as these pairs.
+/// seconds of Unix time. If the creation time and all others are below 2^63, the file is read again as these pairs.
 ///
 /// # Errors
 ///
-/// `NoMemory` where memory was wanting.
+/// `NoMemory` if memory ran out.
 pub fn write(alloc: Global, creation: u64, pairs: &[(u64, Imprint)]) -> Result<Bytes, NoMemory>
     ensures text { IfOk result (λ file. file ≡ publications_text creation pairs.now) }
     ensures read_again { creation < 2 ^ 63 → AllByRecursion (λ pair. pair.0 < 2 ^ 63) pairs.now →

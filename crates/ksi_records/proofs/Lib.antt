@@ -1,7 +1,11 @@
+pub mod AskedLemmas
 pub mod EntryLemmas
 pub mod HeadLemmas
+pub mod HistoryLemmas
 pub mod LineLemmas
 pub mod MarkLemmas
+pub mod Merging
+pub mod MessageLemmas
 pub mod NodeEntryLemmas
 pub mod NodeLogLemmas
 pub mod NodeRunLemmas
@@ -9,10 +13,13 @@ pub mod NodeStandingLemmas
 pub mod NodeStreamLemmas
 pub mod NodeVerdictLemmas
 pub mod RecordLemmas
+pub mod Renaming
 pub mod ReportLemmas
 pub mod SaidLemmas
 pub mod StandingLemmas
 pub mod SumLemmas
 pub mod TextLemmas
+pub mod TitleLemmas
+pub mod Together
 pub mod VerdictLemmas
 pub mod WireLemmas

@@ -11,7 +11,7 @@ use Rattle.ksi_corenode.specs.declared.event.CoreEvent.{CoreEvent}
 use Rattle.ksi_corenode.specs.Rows.{restart_row}
 use Rattle.ksi_aggregator.specs.declared.event.RoundEvent.{RoundEvent}
 use Rattle.ksi_aggregator.specs.Rows.{round_restarted}
-use Rattle.ksi_apart.specs.Logs.{AggregatorAgrees, AtAggregator, AtCore, CoreAgrees, Deed, Which, core_after, core_says, round_after, round_says}
+use Rattle.ksi_records.specs.Logs.{AggregatorAgrees, AtAggregator, AtCore, CoreAgrees, Deed, Which, core_after, core_says, round_after, round_says}
 use Rattle.ksi_records.specs.declared.node.head.Given.TheVariants as given
 use Rattle.ksi_records.specs.declared.node.head.Head.{Head}
 use Rattle.ksi_records.specs.declared.node.head.Head.TheVariants as heads

@@ -21,9 +21,9 @@ use Rattle.ksi_aggregator.specs.declared.step.Send.TheVariants as round_sends
 use Rattle.ksi_aggregator.specs.declared.step.Step as round_step
 use Rattle.ksi_world.specs.Histories.{core_message, round_message}
 use Rattle.ksi_wire.specs.Steps.{core_send_words, core_step_text, round_send_words, round_step_text, step_text}
-use Rattle.ksi_apart.specs.Logs.{changed, core_after, core_turn, round_after}
-use Rattle.ksi_apart.specs.Texts.{message_words}
-use Rattle.ksi_apart.proofs.Renaming.{row_of_seconds}
+use Rattle.ksi_records.specs.Logs.{changed, core_after, core_turn, round_after}
+use Rattle.ksi_records.specs.Texts.{message_words}
+use Rattle.ksi_records.proofs.Renaming.{row_of_seconds}
 use Rattle.ksi_records.specs.declared.node.head.Given.TheVariants as given
 use Rattle.ksi_records.specs.declared.node.runs.Node.TheVariants as nodes
 use Rattle.ksi_records.specs.Node.Runs.{NodeState, block_to, restarted, state_after}

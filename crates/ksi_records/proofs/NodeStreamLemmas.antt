@@ -46,7 +46,7 @@ module _ (image : List ℕ → List ℕ) (plan : PlanState) (me : Actor) where
         leads = λ entries verdict of_rest. was.leads (record { line = line; head = head; block = block } ∷ entries) verdict (more, is, may, told, of_rest);
       }
 
-  -- what is told of a verdict
+  -- a verdict, if there is a first text, is the verdict of some entries of that text
   abbrev pub Found : (first : Option Text) → Verdict → Type 0
   Found first verdict = IfSome first (λ text. (entries : List Entry) × HasVerdict image plan me entries text verdict)
 

@@ -8,7 +8,7 @@ use Rattle.ksi_world.specs.Histories.{happens, after}
 use Rattle.ksi_wire.specs.Steps.{step_text}
 use Rattle.ksi_records.specs.declared.head.Given.{Given}
 use Rattle.ksi_records.specs.Told.{answer_as, block_text, event_of}
-use Rattle.ksi_apart.specs.Texts.{message_words}
+use Rattle.ksi_records.specs.Texts.{message_words}
 use Rattle.ksi_records.proofs.MarkLemmas.{after_more}
 
 module _ (image : List ℕ → List ℕ) (plan : PlanState) where

@@ -14,7 +14,7 @@ IsLine line = All (λ b. b ≢ 10) line
 abbrev pub IsInner : Text → Type 0
 IsInner line = IsLine line × (line ≢ codes ".")
 
--- a line feed behind each line
+-- a line feed after each line
 abbrev pub lines_text : List Text → Text
 lines_text [] = []
 lines_text (line ∷ lines) = line ++ 10 ∷ lines_text lines

@@ -18,6 +18,8 @@ use Rattle.ksi_records.specs.declared.head.Given.{Given}
 use Rattle.ksi_records.specs.declared.head.Given.TheVariants as given
 use Rattle.ksi_records.specs.declared.head.Head.{Head}
 use Rattle.ksi_records.specs.declared.head.Head.TheVariants as heads
+use Rattle.ksi_records.specs.declared.version.Version.{Version}
+use Rattle.ksi_records.specs.declared.version.Version.TheVariants as versions
 
 -- ---- lines
 
@@ -43,19 +45,38 @@ head_words (heads.Unsaid it) = codes "unsaid" ∷ given_words it
 head_words (heads.Restarted actor) = codes "restart" ∷ actor_word actor ∷ []
 head_words (heads.Sign step) = codes "sign" ∷ decimal step ∷ []
 
+-- ---- the line that came: in version 2 a delivery has it, after a space
+
+abbrev pub came_text : Version → Given → (came : Text) → Text
+came_text version (given.Line number event) came = []
+came_text versions.One (given.Message step place) came = []
+came_text versions.Two (given.Message step place) came = 32 ∷ came
+
+abbrev pub came_after : Version → Head → (came : Text) → Text
+came_after version (heads.Said it) came = came_text version it came
+came_after version (heads.Unsaid it) came = came_text version it came
+came_after version (heads.Restarted actor) came = []
+came_after version (heads.Sign step) came = []
+
+-- the first line of an entry
+abbrev pub first_line : Version → Head → (came : Text) → Text
+first_line version head came = line_of (head_words head) ++ came_after version head came
+
 -- ---- entries
 
+-- what the first line says, the line that came if it has one, and the block
 pub record Entry : Type 0 where
   pub head : Head
+  pub came : Text
   pub block : Text
 
-abbrev pub entry_text : Entry → Text
-entry_text entry = line_of (head_words entry.head) ++ 10 ∷ entry.block
+abbrev pub entry_text : Version → Entry → Text
+entry_text version entry = first_line version entry.head entry.came ++ 10 ∷ entry.block
 
--- one entry behind the other
-abbrev pub record_text : List Entry → Text
-record_text [] = []
-record_text (entry ∷ entries) = entry_text entry ++ record_text entries
+-- one entry after the other
+abbrev pub record_text : Version → List Entry → Text
+record_text version [] = []
+record_text version (entry ∷ entries) = entry_text version entry ++ record_text version entries
 
 -- what a step says, and the answer to whoever asks for a signature, is a block; none is of what was not said
 abbrev pub HasBlock : Head → Text → Type 0
@@ -64,7 +85,7 @@ HasBlock (heads.Unsaid it) block = block ≡ []
 HasBlock (heads.Restarted actor) block = block ≡ []
 HasBlock (heads.Sign step) block = IsBlock block
 
--- a block stands behind it
+-- a block follows it
 abbrev pub WantsBlock : Head → Type 0
 WantsBlock (heads.Said it) = Unit {0}
 WantsBlock (heads.Unsaid it) = ⊥

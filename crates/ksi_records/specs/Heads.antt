@@ -8,7 +8,6 @@ use Rattle.ksi_schedule.specs.Pieces.{Text}
 use Rattle.ksi_schedule.specs.Decimal.{number_of}
 use Rattle.ksi_schedule.specs.Plans.{PlanState}
 use Rattle.ksi_schedule.specs.Words.{is_name}
-use Rattle.ksi_schedule.specs.Printed.{line_of}
 use Rattle.ksi_schedule.specs.declared.actor.Actor.{Actor}
 use Rattle.ksi_schedule.specs.declared.actor.Actor.TheVariants as actors
 use Rattle.ksi_schedule.specs.declared.event.Event.{Event}
@@ -20,7 +19,9 @@ use Rattle.ksi_records.specs.declared.head.Given.{Given}
 use Rattle.ksi_records.specs.declared.head.Given.TheVariants as given
 use Rattle.ksi_records.specs.declared.head.Head.{Head}
 use Rattle.ksi_records.specs.declared.head.Head.TheVariants as heads
-use Rattle.ksi_records.specs.Entries.{head_words}
+use Rattle.ksi_records.specs.declared.version.Version.{Version}
+use Rattle.ksi_records.specs.declared.version.Version.TheVariants as versions
+use Rattle.ksi_records.specs.Entries.{first_line}
 
 -- a value, or the first fault
 abbrev pub Read : Type 0 → Type 0
@@ -31,7 +32,7 @@ abbrev pub ◌>>=◌ : {A B : Type 0} → Read A → (A → Read B) → Read B
 (Ok x) >>= next = next x
 (Err fault) >>= next = Err fault
 
--- what stands before the first space, and what stands behind it
+-- what is before the first space, and what follows it
 abbrev pub word_of : Text → Text
 word_of line = before_first (λ b. b == 32) line
 
@@ -94,7 +95,7 @@ core_line_at plan j line =
     then (second_at plan (rest_of line) >>= λ t. Ok (given.Line 0 (core_event (word_of line) j t)))
     else Err Word
 
--- behind the number and the second of a request: its hash, and its name
+-- after the number and the second of a request: its hash, and its name
 abbrev pub asked_at : (aggregator number second : ℕ) → Text → Read Given
 asked_at k number t line =
     imprint_at (word_of line) >>= λ imprint. name_at (rest_of line) >>= λ name. Ok (given.Line number (events.Request k t imprint name))
@@ -115,21 +116,34 @@ line_to plan (actors.Aggregator k) line = aggregator_line_at plan k line
 
 -- ---- first lines
 
-abbrev pub message_at : Text → Read Given
-message_at line = number_at (word_of line) >>= λ step. number_at (rest_of line) >>= λ place. Ok (given.Message step place)
+-- the word of a message's place: the last word, or in version 2 the last one before the line that came
+abbrev pub place_word : Version → Text → Text
+place_word versions.One rest = rest
+place_word versions.Two rest = word_of rest
 
-abbrev pub given_at : PlanState → Text → Read Given
-given_at plan line =
-    if bytes_eq (word_of line) (codes "deliver") then message_at (rest_of line)
+abbrev pub message_at : Version → Text → Read Given
+message_at version line = number_at (word_of line) >>= λ step. number_at (place_word version (rest_of line)) >>= λ place. Ok (given.Message step place)
+
+abbrev pub given_at : PlanState → Version → Text → Read Given
+given_at plan version line =
+    if bytes_eq (word_of line) (codes "deliver") then message_at version (rest_of line)
     else (node_at plan (word_of line) >>= λ node. line_to plan node (rest_of line))
 
-abbrev pub any_head_at : PlanState → Text → Read Head
-any_head_at plan line =
-    if bytes_eq (word_of line) (codes "unsaid") then (given_at plan (rest_of line) >>= λ it. Ok (heads.Unsaid it))
+abbrev pub any_head_at : PlanState → Version → Text → Read Head
+any_head_at plan version line =
+    if bytes_eq (word_of line) (codes "unsaid") then (given_at plan version (rest_of line) >>= λ it. Ok (heads.Unsaid it))
     else if bytes_eq (word_of line) (codes "restart") then (node_at plan (rest_of line) >>= λ node. Ok (heads.Restarted node))
     else if bytes_eq (word_of line) (codes "sign") then (number_at (rest_of line) >>= λ step. Ok (heads.Sign step))
-    else (given_at plan line >>= λ it. Ok (heads.Said it))
+    else (given_at plan version line >>= λ it. Ok (heads.Said it))
 
--- what a line says, where it is just as that is printed, or why it says nothing
-unfoldable pub head_at : PlanState → (line : Text) → Read Head
-head_at plan line = any_head_at plan line >>= λ head. if bytes_eq (line_of (head_words head)) line then Ok head else Err Spelling
+-- the line that came: of a delivery in version 2 what follows its three words
+abbrev pub delivered_in : Text → Text
+delivered_in line = if bytes_eq (word_of line) (codes "deliver") then rest_of (rest_of (rest_of line)) else []
+
+abbrev pub came_in : Version → (line : Text) → Text
+came_in versions.One line = []
+came_in versions.Two line = if bytes_eq (word_of line) (codes "unsaid") then delivered_in (rest_of line) else delivered_in line
+
+-- what a line says if it is just as that is printed, or why it says nothing
+unfoldable pub head_at : PlanState → Version → (line : Text) → Read Head
+head_at plan version line = any_head_at plan version line >>= λ head. if bytes_eq (first_line version head (came_in version line)) line then Ok head else Err Spelling

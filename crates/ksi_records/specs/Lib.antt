@@ -1,10 +1,13 @@
 pub mod Blocks
 pub mod Entries
 pub mod Heads
+pub mod Histories
+pub mod Logs
 pub mod Marks
 pub mod Node
 pub mod Reports
 pub mod Steps
 pub mod Sums
+pub mod Texts
 pub mod Told
 pub mod Verdicts

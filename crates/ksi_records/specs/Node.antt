@@ -1,4 +1,4 @@
--- The log of one node, held against that node's own run.
+-- The log of one node, compared with that node's own run.
 pub mod Entries
 pub mod Heads
 pub mod Reports

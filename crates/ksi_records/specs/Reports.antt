@@ -6,6 +6,8 @@ use Rattle.ksi_schedule.specs.Printed.{line_of}
 use Rattle.ksi_wire.specs.Refused.{fault_word}
 use Rattle.ksi_records.specs.declared.fault.RecordFault.{RecordFault}
 use Rattle.ksi_records.specs.declared.fault.RecordFault.TheVariants as faults
+use Rattle.ksi_records.specs.declared.version.Version.{Version}
+use Rattle.ksi_records.specs.declared.version.Version.TheVariants as versions
 use Rattle.ksi_records.specs.declared.verdict.Counts.{Counts}
 use Rattle.ksi_records.specs.Blocks.{place_words}
 use Rattle.ksi_records.specs.declared.verdict.Retraced.{Retraced}
@@ -18,8 +20,14 @@ record_word faults.Message = codes "message"
 record_word faults.Request = codes "request"
 record_word faults.Cut = codes "cut"
 
+-- version 1 does not have the lines that came
+abbrev pub version_words : Version → List Text
+version_words versions.One = codes "lines" ∷ codes "not" ∷ codes "compared" ∷ []
+version_words versions.Two = []
+
 abbrev pub counts_words : Counts → List Text
-counts_words counts = codes "agrees" ∷ decimal counts.steps ∷ codes "unsaid" ∷ decimal counts.unsaid ∷ codes "signatures" ∷ decimal counts.signatures ∷ []
+counts_words counts =
+    codes "agrees" ∷ decimal counts.steps ∷ codes "unsaid" ∷ decimal counts.unsaid ∷ codes "signatures" ∷ decimal counts.signatures ∷ version_words counts.version
 
 abbrev pub verdict_words : Retraced → List Text
 verdict_words (retraced.Agrees counts) = counts_words counts

@@ -16,7 +16,9 @@ use Rattle.ksi_records.specs.declared.tracer.Told.TheVariants as tolds
 use Rattle.ksi_records.specs.declared.blocks.place.Place.{Place}
 use Rattle.ksi_records.specs.declared.verdict.Retraced.{Retraced}
 use Rattle.ksi_records.specs.declared.verdict.Retraced.TheVariants as retraced
+use Rattle.ksi_records.specs.declared.version.Version.{Version}
 use Rattle.ksi_records.specs.Blocks.{IsCutBlock}
+use Rattle.ksi_records.specs.Heads.{came_in}
 use Rattle.ksi_records.specs.Entries.{IsHead, HasBlock, WantsBlock}
 use Rattle.ksi_records.specs.Told.{unsaid_block, IsTold, IsMissing, MayCome}
 use Rattle.ksi_records.specs.Verdicts.{shown_block, is_unsaid, StandsIn, Whole}
@@ -28,15 +30,16 @@ abbrev pub IsBlockBehind : Head → (old new : Option Text) → (block : Text) �
 IsBlockBehind head old new block true = Consumes old new block × HasBlock head block
 IsBlockBehind head old new block false = WantsBlock head × IfSome old IsCutBlock
 
--- a whole entry, and what is left is what stands behind it
-abbrev pub IsWhole : PlanState → (bytes : Text) → (new : Option Text) → Head → (block : Text) → Type 0
-IsWhole plan bytes None head block = ⊥
-IsWhole plan bytes (Some more) head block = StandsIn plan bytes (Whole (record { head = head; block = block }) more)
+-- a whole entry, and what is left is what follows it
+abbrev pub IsWhole : PlanState → Version → (bytes : Text) → (new : Option Text) → Head → (came block : Text) → Type 0
+IsWhole plan version bytes None head came block = ⊥
+IsWhole plan version bytes (Some more) head came block = StandsIn plan version bytes (Whole (record { head = head; came = came; block = block }) more)
 
-abbrev pub IsNext : PlanState → (old new : Option Text) → (block : Text) → Next → Type 0
-IsNext plan old new block (nexts.Entry head) = IfSome old (λ bytes. IsWhole plan bytes new head block)
-IsNext plan old new block (nexts.Refused fault) = IfSome old (λ bytes. StandsIn plan bytes (verdicts.Refused fault))
-IsNext plan old new block nexts.End = IfSome old (λ bytes. bytes ≡ [])
+-- the first line of an entry is this one
+abbrev pub IsNext : PlanState → Version → (old new : Option Text) → (line block : Text) → Next → Type 0
+IsNext plan version old new line block (nexts.Entry head) = IfSome old (λ bytes. IsWhole plan version bytes new head (came_in version line) block)
+IsNext plan version old new line block (nexts.Refused fault) = IfSome old (λ bytes. StandsIn plan version bytes (verdicts.Refused fault))
+IsNext plan version old new line block nexts.End = IfSome old (λ bytes. bytes ≡ [])
 
 -- what its head names is the plan's
 abbrev pub IsThere : PlanState → Next → Type 0
@@ -46,7 +49,7 @@ IsThere plan nexts.End = Unit {0}
 
 -- ---- comparing
 
--- why an entry is refused, but for want of memory
+-- why an entry is refused, unless memory ran out
 abbrev pub IsRefusal : (RecordFault → Type 0) → Refused RecordFault → Type 0
 IsRefusal P (refusals.Fault fault) = P fault
 IsRefusal P refusals.NoMemory = Unit {0}
@@ -56,19 +59,20 @@ module _ (image : List ℕ → List ℕ) (plan : PlanState) where
   IsUnsaidBlock es (heads.Unsaid it) text = text ≡ unsaid_block image plan es it
   IsUnsaidBlock es _ text = ⊥
 
-  abbrev pub IsAnswer : List Event → Head → (block : Text) → Told → Type 0
-  IsAnswer es head block tolds.Agrees = IsTold image plan es head block × (is_unsaid head ≡ false)
-  IsAnswer es head block (tolds.Unsaid text) = IsTold image plan es head block × IsUnsaidBlock es head text
-  IsAnswer es head block tolds.Differs = MayCome image plan es head × (¬ IsTold image plan es head block)
+  abbrev pub IsAnswer : Version → List Event → Head → (came block : Text) → Told → Type 0
+  IsAnswer version es head came block tolds.Agrees = IsTold image plan version es head came block × (is_unsaid head ≡ false)
+  IsAnswer version es head came block (tolds.Unsaid text) = IsTold image plan version es head came block × IsUnsaidBlock es head text
+  IsAnswer version es head came block tolds.Differs = MayCome image plan es head × (¬ IsTold image plan version es head came block)
 
-  -- of a step that was never said its place and its block are shown
+  -- the place and the block of a step whose reply was lost are shown
   abbrev pub IsShown : List Event → Place → Head → (old new : Option Text) → Type 0
   IsShown es place (heads.Unsaid it) old new = Appends old new (shown_block place (unsaid_block image plan es it))
   IsShown es place _ old new = Appends old new []
 
   -- nothing: the entry agrees; else the verdict at its place
-  abbrev pub IsHeld : List Event → Place → Head → (block : Text) → (old new : Option Text) → Option Retraced → Type 0
-  IsHeld es place head block old new None = IsTold image plan es head block × IsShown es place head old new
-  IsHeld es place head block old new (Some (retraced.Agrees counts)) = ⊥
-  IsHeld es place head block old new (Some (retraced.Differs at)) = (at ≡ place) × MayCome image plan es head × (¬ IsTold image plan es head block) × Appends old new []
-  IsHeld es place head block old new (Some (retraced.Refused fault at)) = (at ≡ place) × IsMissing image plan es head fault × Appends old new []
+  abbrev pub IsHeld : Version → List Event → Place → Head → (came block : Text) → (old new : Option Text) → Option Retraced → Type 0
+  IsHeld version es place head came block old new None = IsTold image plan version es head came block × IsShown es place head old new
+  IsHeld version es place head came block old new (Some (retraced.Agrees counts)) = ⊥
+  IsHeld version es place head came block old new (Some (retraced.Differs at)) =
+      (at ≡ place) × MayCome image plan es head × (¬ IsTold image plan version es head came block) × Appends old new []
+  IsHeld version es place head came block old new (Some (retraced.Refused fault at)) = (at ≡ place) × IsMissing image plan es head fault × Appends old new []

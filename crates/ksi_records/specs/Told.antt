@@ -1,8 +1,8 @@
 -- What a world says to the entries of a record, each at its place.
-use Rattle.std.specs.Prelude.{◌≡◌, ◌<◌, ◌^◌, ℕ, ◌+◌, All, Bool, false, List, [], ◌∷◌, ◌++◌, codes, drop, take, length, map, Option, Some, None}
+use Rattle.std.specs.Prelude.{◌≡◌, ◌<◌, ◌^◌, ℕ, ◌+◌, All, Bool, false, List, [], ◌∷◌, ◌++◌, codes, drop, take, length, map, slice_get, Option, Some, None}
 use Rattle.hex.specs.Hex.{encode_lower}
 use Rattle.ksi_schedule.specs.Pieces.{Text}
-use Rattle.ksi_schedule.specs.Printed.{text_of_lines}
+use Rattle.ksi_schedule.specs.Printed.{line_of, text_of_lines}
 use Rattle.ksi_schedule.specs.Plans.{PlanState}
 use Rattle.ksi_schedule.specs.declared.event.Event.{Event}
 use Rattle.ksi_schedule.specs.declared.event.Event.TheVariants as events
@@ -12,13 +12,15 @@ use Rattle.ksi_world.specs.declared.message.Message.{Message}
 use Rattle.ksi_world.specs.Histories.{Happening, happens, after}
 use Rattle.ksi_world.specs.Records.{issued_of}
 use Rattle.ksi_wire.specs.Steps.{step_text}
-use Rattle.ksi_apart.specs.Texts.{message_words}
+use Rattle.ksi_records.specs.Texts.{message_words}
 use Rattle.ksi_records.specs.declared.head.Given.{Given}
 use Rattle.ksi_records.specs.declared.head.Given.TheVariants as given
 use Rattle.ksi_records.specs.declared.head.Head.{Head}
 use Rattle.ksi_records.specs.declared.head.Head.TheVariants as heads
 use Rattle.ksi_records.specs.declared.fault.RecordFault.{RecordFault}
 use Rattle.ksi_records.specs.declared.fault.RecordFault.TheVariants as faults
+use Rattle.ksi_records.specs.declared.version.Version.{Version}
+use Rattle.ksi_records.specs.declared.version.Version.TheVariants as versions
 use Rattle.ksi_records.specs.Entries.{Entry, restart_of}
 
 -- ---- blocks
@@ -40,6 +42,14 @@ signature_words None = codes "not" ∷ codes "issued" ∷ []
 abbrev pub signature_block : Option (List ℕ) → Text
 signature_block found = text_of_lines (signature_words found ∷ (codes "." ∷ []) ∷ [])
 
+-- ---- lines that came
+
+-- the message of this number is this line: the addressee and its line, as they follow `send ` in the block of the sender
+pub record IsMessageLine (wire : List Message) (number : ℕ) (came : Text) : Type 0 where
+  pub message : Message
+  pub sent : slice_get wire number ≡ Some message
+  pub line : line_of (message_words message) ≡ codes "send " ++ came
+
 module _ (image : List ℕ → List ℕ) (plan : PlanState) where
   -- ---- messages and requests by the steps that sent and accepted them
 
@@ -50,7 +60,7 @@ module _ (image : List ℕ → List ℕ) (plan : PlanState) where
   abbrev pub accepted_before : List Event → (step : ℕ) → ℕ
   accepted_before es step = length (after image plan (take step es)).requests
 
-  -- the step is one of those so far, and sent so many messages and one more
+  -- the step is one of those so far, and sent more messages than this number
   abbrev pub IsSent : List Event → (step place : ℕ) → Type 0
   IsSent es step place = (step < length es) × (sent_before es step + place < sent_before es (step + 1))
 
@@ -75,20 +85,29 @@ module _ (image : List ℕ → List ℕ) (plan : PlanState) where
   IsNamed es (given.Line number event) = Unit {0}
   IsNamed es (given.Message step place) = IsSent es step place
 
-  -- the block is what the world says: to a step after these events, or to whoever asks for the signature of a request
-  abbrev pub IsTold : List Event → Head → Text → Type 0
-  IsTold es (heads.Said it) block =
-      IsNamed es it × (stored : Bool) × (block ≡ block_text it (after image plan es).wire stored (happens image plan (after image plan es) (event_of es it)))
-  IsTold es (heads.Unsaid it) block = IsNamed es it × (block ≡ [])
-  IsTold es (heads.Restarted actor) block = block ≡ []
-  IsTold es (heads.Sign step) block = IsAccepted es step × (block ≡ signature_block (issued_of image (after image plan es) (accepted_before es step)))
+  -- the line that came is the text of the message that came; version 1 does not have the line
+  abbrev pub HasCome : Version → List Event → Given → (came : Text) → Type 0
+  HasCome version es (given.Line number event) came = Unit {0}
+  HasCome versions.One es (given.Message step place) came = Unit {0}
+  HasCome versions.Two es (given.Message step place) came = IsMessageLine (after image plan es).wire (sent_before es step + place) came
 
-  -- each block, behind the events before it, and all events are these
-  abbrev pub AreTold : List Event → List Entry → List Event → Type 0
-  AreTold es [] all = es ≡ all
-  AreTold es (entry ∷ entries) all = IsTold es entry.head entry.block × AreTold (with_head es entry.head) entries all
+  -- the line that came is the message, and the block is what the world says: to a step after these events, or to whoever asks
+  -- for the signature of a request
+  abbrev pub IsTold : Version → List Event → Head → (came block : Text) → Type 0
+  IsTold version es (heads.Said it) came block =
+      IsNamed es it × HasCome version es it came
+      × (stored : Bool) × (block ≡ block_text it (after image plan es).wire stored (happens image plan (after image plan es) (event_of es it)))
+  IsTold version es (heads.Unsaid it) came block = IsNamed es it × HasCome version es it came × (block ≡ [])
+  IsTold version es (heads.Restarted actor) came block = block ≡ []
+  IsTold version es (heads.Sign step) came block =
+      IsAccepted es step × (block ≡ signature_block (issued_of image (after image plan es) (accepted_before es step)))
 
-  -- ---- what is not as the world says
+  -- each entry, after the events before it, and all events are these
+  abbrev pub AreTold : Version → List Event → List Entry → List Event → Type 0
+  AreTold version es [] all = es ≡ all
+  AreTold version es (entry ∷ entries) all = IsTold version es entry.head entry.came entry.block × AreTold version (with_head es entry.head) entries all
+
+  -- ---- differences from the world
 
   -- what the head names is there
   abbrev pub MayCome : List Event → Head → Type 0
@@ -114,7 +133,7 @@ module _ (image : List ℕ → List ℕ) (plan : PlanState) where
   IsMissing es (heads.Restarted actor) fault = ⊥
   IsMissing es (heads.Sign step) fault = IsUnaccepted es step fault
 
-  -- ---- what is shown of what was never said
+  -- ---- the world's block of a step whose reply was lost
 
   -- the block of a step, but for the line of whether a fact was stored
   abbrev pub unsaid_block : List Event → Given → Text

@@ -1,8 +1,8 @@
-//! Lines and blocks of a record: what records of runs and logs of nodes are read by alike.
+//! Lines and blocks: records of runs and logs of nodes are read by them alike.
 //!
-//! A line has no line feed, and stands in a text with one behind it. A block is lines, of which the last alone is a full stop.
-//! The modules above may rely on this: [`next_line`] and [`read_block`] take from a reader just the next line or block of what
-//! it gives, or say what stands there in its place, and one text begins with at most one of each. A [`Place`] counts entries
+//! A line has no line feed, and is followed by one in a text. A block is lines, of which the last alone is a full stop.
+//! The modules above may rely on this: [`next_line`] and [`read_block`] take from a reader just the next line or block, or
+//! report what is there in its place, and one text begins with at most one of each. A [`Place`] counts entries
 //! and lines.
 mod lines;
 mod place;

@@ -6,6 +6,7 @@ use crate::blocks::{Came, next_line, read_block};
 use crate::fault::RecordFault;
 use crate::head::Head;
 use crate::reading::read_head;
+use crate::version::Version;
 use ksi_imprint::Refused;
 use ksi_schedule::Plan;
 use std::alloc::Global;
@@ -22,15 +23,16 @@ pub(crate) enum Next {
     End,
 }
 
-/// The next entry, by its first line: its block, if it has one, stands in `block`.
+/// The next entry, by its first line. The line is in `line`, and the block, if it has one, in `block`.
 pub(crate) fn next_entry<S: BufRead>(
     alloc: Global,
     plan: &Plan,
+    version: Version,
     log: &mut S,
     line: &mut Vec<u8>,
     block: &mut Vec<u8>,
 ) -> io::Result<Next>
-    ensures next { IfOk result (IsNext plan.now (S.remaining log.old) (S.remaining log.new) block.new.items) }
+    ensures next { IfOk result (IsNext plan.now version (S.remaining log.old) (S.remaining log.new) line.new.items block.new.items) }
     ensures there { IfOk result (IsThere plan.now) }
 {
     match next_line(log, line)? {
@@ -38,7 +40,7 @@ pub(crate) fn next_entry<S: BufRead>(
         Came::Cut => return Ok(Next::Refused(RecordFault::Cut)),
         Came::End => return Ok(Next::End),
     }
-    let head = match read_head(alloc, plan, line) {
+    let head = match read_head(alloc, plan, version, line) {
         Ok(head) => head,
         Err(Refused::Fault(fault)) => return Ok(Next::Refused(RecordFault::Line(fault))),
         Err(Refused::NoMemory) => return Err(io::ErrorKind::OutOfMemory.into()),
@@ -50,7 +52,7 @@ pub(crate) fn next_entry<S: BufRead>(
     }
 }
 
-/// The block behind a first line, if it has one. The answer is whether it is whole.
+/// The block after a first line, if it has one. Returns whether it is whole.
 fn next_block<S: BufRead>(log: &mut S, head: &Head, block: &mut Vec<u8>) -> io::Result<bool>
     ensures { IfOk result (IsBlockBehind head.now (S.remaining log.old) (S.remaining log.new) block.new.items) }
 {

@@ -14,7 +14,7 @@ pub enum Given {
 pub enum Head {
     /// A step, whose block follows.
     Said(Given),
-    /// A step that happened and was never said. No block follows.
+    /// A step that happened and whose reply was lost. No block follows.
     Unsaid(Given),
     /// A node was started again. No block follows.
     Restarted(Actor),

@@ -1,10 +1,12 @@
-//! Records of live runs, held against the world of a plan, and logs of nodes, held against the node's own run. Each is read
-//! as a stream.
+//! Compares records of live runs with the world of a plan, and logs of nodes with the node's own run. Each is read as a
+//! stream.
 //!
-//! The layer above may rely on this: a record or a log has one verdict. It agrees exactly if each block is the text of what the
-//! world, or the node, says at its place, and a record only if each signature is the one issued. Else the verdict is the first
-//! entry that differs, or that is none. Of each step that was never said, what the world has is written. The formats are in
-//! docs/FORMATS.md, "Records of runs" and "Logs of nodes".
+//! The layer above may rely on this: a record or a log has one verdict. It agrees exactly if each block is the text that the
+//! world, or the node, has at its place, and a record only if each signature is the one issued and, in version 2, each line
+//! that came from a node is the message that the entry names. Else the verdict is the first entry that differs, or the first
+//! text that is no entry. A record that agrees is that of a history (clause `history` of [`retrace`]), and `ksi_laws_records`
+//! says what follows for its signatures. For each step whose reply was lost, the world's block is written. The formats are in docs/FORMATS.md, "Records of
+//! runs" and "Logs of nodes".
 //!
 //! ```text
 //! let status = report::<Sha, _, _>(alloc, schedule.plan(), &mut record, &mut out)?;
@@ -17,6 +19,7 @@ mod blocks;
 mod entry;
 mod fault;
 mod head;
+pub mod laws;
 mod mark;
 pub mod node;
 mod printing;
@@ -27,6 +30,7 @@ mod sum;
 mod telling;
 mod tracer;
 mod verdict;
+mod version;
 
 pub use blocks::Place;
 pub use fault::RecordFault;
@@ -34,3 +38,4 @@ pub use reading::node_of;
 pub use reporting::report;
 pub use stream::retrace;
 pub use verdict::{Counts, Retraced};
+pub use version::Version;

@@ -1,4 +1,4 @@
-//! The log of one node of a live run, held against the node's own run, without any other node. Memory is that of the node.
+//! The log of one node of a live run, compared with the node's own run, without any other node. Memory is that of the node.
 mod entry;
 mod fault;
 mod head;

@@ -5,10 +5,11 @@ ghost use Rattle.ksi_schedule.specs.declared.actor.Actor.TheVariants as actors;
 ghost use Rattle.ksi_wire.specs.Lines.{core_words};
 ghost use Rattle.ksi_aggregator.specs.Events.{event_second};
 ghost use Rattle.ksi_wire.specs.RoundLines.{round_words};
-ghost use Rattle.ksi_records.specs.Entries.{line_words, given_words, head_words, IsEarly, IsEarlyGiven, IsEarlyHead};
+ghost use Rattle.ksi_records.specs.Entries.{came_after, came_text, line_words, given_words, head_words, IsEarly, IsEarlyGiven, IsEarlyHead};
 
 use crate::blocks::{put_node, put_number};
 use crate::head::{Given, Head};
+use crate::version::Version;
 use ksi_aggregator::RoundEvent;
 use ksi_corenode::CoreEvent;
 use ksi_imprint::NoMemory;
@@ -36,6 +37,42 @@ pub(crate) fn put_head(alloc: Global, text: &mut Vec<u8>, head: &Head) -> Result
             text.extend_from_slice(b"sign ")?;
             put_number(text, *step)
         }
+    }
+}
+
+/// The line that came, after a space, if the entry has it.
+pub(crate) fn put_came(
+    text: &mut Vec<u8>,
+    version: Version,
+    head: &Head,
+    came: &[u8],
+) -> Result<(), NoMemory>
+    ensures { OnOk result (text.new.items ≡ text.old.items ++ came_after version head.now came.now) }
+{
+    match head {
+        Head::Said(given) => put_given_came(text, version, given, came),
+        Head::Unsaid(given) => put_given_came(text, version, given, came),
+        Head::Restarted(_) | Head::Sign(_) => Ok(()),
+    }
+}
+
+fn put_given_came(
+    text: &mut Vec<u8>,
+    version: Version,
+    given: &Given,
+    came: &[u8],
+) -> Result<(), NoMemory>
+    ensures { OnOk result (text.new.items ≡ text.old.items ++ came_text version given.now came.now) }
+{
+    match given {
+        Given::Line(_, _) => Ok(()),
+        Given::Message(_, _) => match version {
+            Version::One => Ok(()),
+            Version::Two => {
+                text.push(b' ')?;
+                text.extend_from_slice(came)
+            }
+        },
     }
 }
 

@@ -1,43 +1,47 @@
-// What the first line of an entry says.
+// Reads the first line of an entry.
 ghost use Rattle.std.specs.Prelude.{◌≡◌, ◌<◌, ◌^◌, ◌↔◌, IfOk, IfSome, IsTrue, length};
 ghost use Rattle.std.specs.Str.{bytes_eq};
 ghost use Rattle.ksi_aggtree.specs.Names.{IsName};
 ghost use Rattle.ksi_schedule.specs.Plans.{PlanState, InRange};
 ghost use Rattle.ksi_schedule.specs.Events.{IsEvent};
-ghost use Rattle.ksi_schedule.specs.Printed.{line_of};
 ghost use Rattle.ksi_wire.specs.Asked.{Answers};
-ghost use Rattle.ksi_records.specs.Entries.{head_words, restart_of, IsGiven, IsHead, IsEarly, IsEarlyGiven, IsEarlyHead};
+ghost use Rattle.ksi_records.specs.Entries.{first_line, restart_of, IsGiven, IsHead, IsEarly, IsEarlyGiven, IsEarlyHead};
 ghost use Rattle.ksi_records.specs.Node.Steps.{IsThere};
-ghost use Rattle.ksi_records.specs.Heads.{aggregator_at, aggregator_line_at, any_head_at, asked_at, core_at, core_event, core_line_at, given_at, head_at, imprint_at, is_core_word, line_to, message_at, name_at, node_at, number_at, request_at, rest_of, second_at, word_of};
+ghost use Rattle.ksi_records.specs.Heads.{aggregator_at, aggregator_line_at, any_head_at, asked_at, came_in, core_at, core_event, core_line_at, delivered_in, given_at, head_at, imprint_at, is_core_word, line_to, message_at, name_at, node_at, number_at, place_word, request_at, rest_of, second_at, word_of};
 
 use crate::head::{Given, Head};
-use crate::printing::put_head;
+use crate::printing::{put_came, put_head};
+use crate::version::Version;
 use ksi_aggtree::Name;
 use ksi_imprint::{Imprint, Refused};
 use ksi_schedule::{Actor, Event, Plan, read_number};
+use ksi_synod::PLAN_SECONDS;
 use ksi_wire::WireFault;
 use memchr::memchr;
 use std::alloc::Global;
-
-// How many seconds a plan has.
-const SECONDS: u64 = 0x100_0000;
 
 /// What the first line of an entry says, where it is just as that is printed.
 ///
 /// # Errors
 /// The first fault of the words from the left, or `Spelling`. `NoMemory`.
 #[tactic(auto, unfolding(crate::specs::Heads::head_at))]
-pub(crate) fn read_head(alloc: Global, plan: &Plan, line: &[u8]) -> Result<Head, Refused<WireFault>>
-    ensures exact { Answers (head_at plan.now line.now) result }
-    ensures text { IfOk result (λ head. line.now ≡ line_of (head_words head)) }
+pub(crate) fn read_head(
+    alloc: Global,
+    plan: &Plan,
+    version: Version,
+    line: &[u8],
+) -> Result<Head, Refused<WireFault>>
+    ensures exact { Answers (head_at plan.now version line.now) result }
+    ensures text { IfOk result (λ head. line.now ≡ first_line version head (came_in version line.now)) }
     ensures there { IfOk result (IsHead plan.now) }
 {
-    let head = match any_head(plan, line) {
+    let head = match any_head(plan, version, line) {
         Ok(head) => head,
         Err(fault) => return Err(Refused::Fault(fault)),
     };
     let mut again = Vec::new(alloc);
     put_head(alloc, &mut again, &head)?;
+    put_came(&mut again, version, &head, came_in(version, line))?;
     if is(again.as_slice(), line) {
         Ok(head)
     } else {
@@ -46,31 +50,31 @@ pub(crate) fn read_head(alloc: Global, plan: &Plan, line: &[u8]) -> Result<Head,
 }
 
 /// What a line says whose words may be spelled otherwise.
-fn any_head(plan: &Plan, line: &[u8]) -> Result<Head, WireFault>
-    ensures exact { result ≡ any_head_at plan.now line.now }
+fn any_head(plan: &Plan, version: Version, line: &[u8]) -> Result<Head, WireFault>
+    ensures exact { result ≡ any_head_at plan.now version line.now }
     ensures there { IfOk result (IsHead plan.now) }
     ensures early { IfOk result IsEarlyHead }
 {
     let (first, rest) = cut(line);
     if is(first, b"unsaid") {
-        Ok(Head::Unsaid(given(plan, rest)?))
+        Ok(Head::Unsaid(given(plan, version, rest)?))
     } else if is(first, b"restart") {
         Ok(Head::Restarted(node_of(plan, rest)?))
     } else if is(first, b"sign") {
         Ok(Head::Sign(number(rest)?))
     } else {
-        Ok(Head::Said(given(plan, line)?))
+        Ok(Head::Said(given(plan, version, line)?))
     }
 }
 
-fn given(plan: &Plan, line: &[u8]) -> Result<Given, WireFault>
-    ensures exact { result ≡ given_at plan.now line.now }
+fn given(plan: &Plan, version: Version, line: &[u8]) -> Result<Given, WireFault>
+    ensures exact { result ≡ given_at plan.now version line.now }
     ensures there { IfOk result (IsGiven plan.now) }
     ensures early { IfOk result IsEarlyGiven }
 {
     let (first, rest) = cut(line);
     if is(first, b"deliver") {
-        return message(rest);
+        return message(version, rest);
     }
     match node_of(plan, first)? {
         Actor::Core(core) => to_core(plan, core, rest),
@@ -79,12 +83,56 @@ fn given(plan: &Plan, line: &[u8]) -> Result<Given, WireFault>
 }
 
 /// The step that sent a message, and the message's place.
-fn message(line: &[u8]) -> Result<Given, WireFault>
-    ensures exact { result ≡ message_at line.now }
+fn message(version: Version, line: &[u8]) -> Result<Given, WireFault>
+    ensures exact { result ≡ message_at version line.now }
     ensures early { IfOk result IsEarlyGiven }
 {
-    let (step, place) = cut(line);
-    Ok(Given::Message(number(step)?, number(place)?))
+    let (step, rest) = cut(line);
+    let step = number(step)?;
+    let place = number(place_word(version, rest))?;
+    Ok(Given::Message(step, place))
+}
+
+/// The word of a message's place.
+fn place_word(version: Version, rest: &[u8]) -> &[u8]
+    ensures { result.now ≡ place_word version rest.now }
+{
+    match version {
+        Version::One => rest,
+        Version::Two => {
+            let (word, _) = cut(rest);
+            word
+        }
+    }
+}
+
+/// The line that came: of a delivery in version 2 what follows its three words.
+pub(crate) fn came_in(version: Version, line: &[u8]) -> &[u8]
+    ensures { result.now ≡ came_in version line.now }
+{
+    match version {
+        Version::One => &[],
+        Version::Two => {
+            let (first, rest) = cut(line);
+            if is(first, b"unsaid") {
+                delivered_in(rest)
+            } else {
+                delivered_in(line)
+            }
+        }
+    }
+}
+
+fn delivered_in(line: &[u8]) -> &[u8]
+    ensures { result.now ≡ delivered_in line.now }
+{
+    let (first, rest) = cut(line);
+    if !is(first, b"deliver") {
+        return &[];
+    }
+    let (_, rest) = cut(rest);
+    let (_, came) = cut(rest);
+    came
 }
 
 /// A line to a core of the plan that no node sends: a word and a second.
@@ -200,7 +248,7 @@ fn second(plan: &Plan, word: &[u8]) -> Result<u64, WireFault>
 {
     let n = number(word)?;
     let start = plan.core_plan().start();
-    if start <= n && n - start < SECONDS {
+    if start <= n && n - start < PLAN_SECONDS {
         Ok(n)
     } else {
         Err(WireFault::Second)
@@ -255,7 +303,7 @@ fn number(word: &[u8]) -> Result<u64, WireFault>
     }
 }
 
-/// What stands before the first space, and what stands behind it.
+/// What is before the first space, and what follows it.
 fn cut(line: &[u8]) -> (&[u8], &[u8])
     ensures word { result.0.now ≡ word_of line.now }
     ensures rest { result.1.now ≡ rest_of line.now }

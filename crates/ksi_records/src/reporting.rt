@@ -1,20 +1,21 @@
-//! What is written of a verdict.
+//! The lines of a verdict.
 ghost use Rattle.std.specs.Prelude.{◌≡◌, ◌++◌, List, IfOk, IfSome, OnOk};
 ghost use Rattle.std.specs.Io.KnownBytes.{Appends};
 ghost use Rattle.ksi_records.specs.Entries.{Entry};
 ghost use Rattle.ksi_records.specs.Verdicts.{shown, IsVerdict};
-ghost use Rattle.ksi_schedule.specs.Printed.{line_of};
-ghost use Rattle.ksi_records.specs.Reports.{counts_words, status_of, verdict_text, verdict_words};
+ghost use Rattle.ksi_schedule.specs.Printed.{line_of, spaced};
+ghost use Rattle.ksi_records.specs.Reports.{counts_words, status_of, verdict_text, verdict_words, version_words};
 
 use crate::blocks::{put_number, put_place};
 use crate::stream::retrace;
 use crate::verdict::{Counts, Retraced};
+use crate::version::Version;
 use ksi_imprint::{Compress, NoMemory};
 use ksi_schedule::Plan;
 use std::alloc::Global;
 use std::io::{self, BufRead, Write};
 
-/// Holds a record against the world of a plan. It writes what the world has of the steps that were never said, and behind it
+/// Compares a record with the world of a plan. It writes the world's blocks of the steps whose reply was lost, and after them
 /// the line of the verdict. The result is the exit status.
 ///
 /// # Errors
@@ -26,7 +27,7 @@ pub fn report<C: Compress, S: BufRead, W: Write>(
     out: &mut W,
 ) -> io::Result<u8>
     ensures { IfOk result (λ status. IfSome (S.remaining log.old) (λ text.
-        (entries : List Entry) × (verdict : Retraced) × IsVerdict C.image plan.now text entries verdict ×
+        (version : Version) × (entries : List Entry) × (verdict : Retraced) × IsVerdict C.image plan.now version text entries verdict ×
         Appends (W.contents out.old) (W.contents out.new) (shown C.image plan.now entries ++ verdict_text verdict) × (status ≡ status_of verdict))) }
 {
     let verdict = retrace::<C, S, W>(alloc, plan, log, out)?;
@@ -71,7 +72,18 @@ fn put_counts(text: &mut Vec<u8>, counts: Counts) -> Result<(), NoMemory>
     text.extend_from_slice(b" unsaid ")?;
     put_number(text, counts.unsaid)?;
     text.extend_from_slice(b" signatures ")?;
-    put_number(text, counts.signatures)
+    put_number(text, counts.signatures)?;
+    put_version(text, counts.version)
+}
+
+/// What was not compared, if the version does not have it.
+fn put_version(text: &mut Vec<u8>, version: Version) -> Result<(), NoMemory>
+    ensures { OnOk result (text.new.items ≡ text.old.items ++ spaced (version_words version)) }
+{
+    match version {
+        Version::One => text.extend_from_slice(b" lines not compared"),
+        Version::Two => Ok(()),
+    }
 }
 
 /// The exit status.

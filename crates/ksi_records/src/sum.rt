@@ -6,11 +6,12 @@ ghost use Rattle.ksi_records.specs.Verdicts.{is_unsaid, is_sign};
 use crate::blocks::Place;
 use crate::head::Head;
 use crate::verdict::Counts;
+use crate::version::Version;
 
 /// How many entries there were, none of the counts beyond 2^64 - 1.
 #[derive(Clone, Copy)]
 pub(crate) struct Sum {
-    /// Where the next entry stands.
+    /// The place of the next entry.
     pub(crate) place: Place,
     pub(crate) unsaid: u64,
     pub(crate) signatures: u64,
@@ -30,7 +31,7 @@ impl Sum {
 
     /// With one more entry.
     pub(crate) fn with(self, head: &Head, block: &[u8]) -> Sum
-        ensures { result ≡ sum_with self (record { head = head.now; block = block.now }) }
+        ensures { result ≡ sum_with self head.now block.now }
     {
         let signed = is_sign(head) && block.starts_with(b"signature ");
         Sum {
@@ -40,10 +41,11 @@ impl Sum {
         }
     }
 
-    pub(crate) fn counts(self, steps: usize) -> Counts
-        ensures { result ≡ counts_in steps self }
+    pub(crate) fn counts(self, version: Version, steps: usize) -> Counts
+        ensures { result ≡ counts_in version steps self }
     {
         Counts {
+            version,
             steps,
             unsaid: self.unsaid,
             signatures: self.signatures,

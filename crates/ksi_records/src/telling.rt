@@ -1,9 +1,9 @@
 //! What a world says to an event, and to whoever asks for a signature.
-ghost use Rattle.std.specs.Prelude.{◌≡◌, ◌++◌, ◌∷◌, [], ◌<◌, ◌^◌, true, Bool, drop, map, OnOk, IfOk, IsTrue, ◌↔◌};
+ghost use Rattle.std.specs.Prelude.{◌≡◌, ◌++◌, ◌∷◌, [], ◌<◌, ◌^◌, true, Bool, codes, drop, map, OnOk, IfOk, IsTrue, ◌↔◌};
 ghost use Rattle.ksi_schedule.specs.Printed.{line_of, text_of_lines};
 ghost use Rattle.ksi_wire.specs.Steps.{step_text, stored_lines};
-ghost use Rattle.ksi_records.specs.Told.{answer_as, signature_block, AreEarly};
-ghost use Rattle.ksi_apart.specs.Texts.{message_words};
+ghost use Rattle.ksi_records.specs.Told.{answer_as, signature_block, AreEarly, IsMessageLine};
+ghost use Rattle.ksi_records.specs.Texts.{message_words};
 ghost use Rattle.ksi_world.specs.Messages.{lent_message};
 
 use crate::head::Given;
@@ -26,7 +26,7 @@ pub(crate) fn answer_as(given: &Given, answer: Answer) -> Answer
     }
 }
 
-/// Whether a text is the block of an answer and the messages behind so many, with or without the line that says that a fact
+/// Whether a text is the block of an answer and of the messages from this number on, with or without the line that says that a fact
 /// was stored.
 pub(crate) fn is_block(
     alloc: Global,
@@ -52,7 +52,7 @@ pub(crate) fn is(one: &[u8], other: &[u8]) -> bool
     one == other
 }
 
-/// The block of an answer, of whether a fact was stored, and of the messages behind so many.
+/// The block of an answer, of whether a fact was stored, and of the messages from this number on.
 pub(crate) fn block(
     alloc: Global,
     answer: &Answer,
@@ -81,7 +81,7 @@ fn put_stored(text: &mut Vec<u8>, is_stored: bool) -> Result<(), NoMemory>
     Ok(())
 }
 
-/// The lines of the messages behind so many.
+/// The lines of the messages from this number on.
 fn put_messages(
     alloc: Global,
     text: &mut Vec<u8>,
@@ -124,6 +124,37 @@ fn put_message(alloc: Global, text: &mut Vec<u8>, message: &LentMessage<'_>) -> 
     }
     text.push(b'\n')?;
     Ok(())
+}
+
+/// Whether a line is that of the message of a number: the addressee, and what it is sent.
+pub(crate) fn is_line_of(
+    alloc: Global,
+    wire: &Wire,
+    number: u64,
+    came: &[u8],
+) -> Result<bool, NoMemory>
+    requires { AreEarly wire.now }
+    ensures { IfOk result (λ is_line. IsTrue is_line ↔ IsMessageLine wire.now number came.now) }
+{
+    match wire.get(number as usize) {
+        Some(message) => is_message(alloc, &message, came),
+        None => Ok(false),
+    }
+}
+
+/// Whether the line of a message is `send`, and then this.
+#[tactic(auto, using(crate::proofs::MessageLemmas::same_lines))]
+fn is_message(alloc: Global, message: &LentMessage<'_>, came: &[u8]) -> Result<bool, NoMemory>
+    requires { message.now.second < 2 ^ 63 }
+    ensures { IfOk result (λ is_message. IsTrue is_message ↔ (line_of (message_words (lent_message message.now)) ≡ codes "send " ++ came.now)) }
+{
+    let mut sent = Vec::new(alloc);
+    put_message(alloc, &mut sent, message)?;
+    let mut line = Vec::new(alloc);
+    line.extend_from_slice(b"send ")?;
+    line.extend_from_slice(came)?;
+    line.push(b'\n')?;
+    Ok(is(sent.as_slice(), line.as_slice()))
 }
 
 /// The block of a signature, or of none.

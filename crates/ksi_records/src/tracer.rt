@@ -1,16 +1,19 @@
-ghost use Rattle.std.specs.Prelude.{◌≡◌, ◌<◌, ◌+◌, [], ◌↔◌, length, take, IfErr, IfOk, IfSome, IsSome, OnOk};
+ghost use Rattle.std.specs.Prelude.{◌≡◌, ◌<◌, ◌^◌, ◌+◌, [], ◌↔◌, length, take, IfErr, IfOk, IfSome, IsSome, IsTrue, OnOk};
 ghost use Rattle.ksi_schedule.specs.Events.{with_event, AreEvents, IsEvent};
+ghost use Rattle.ksi_schedule.specs.Plans.{IsPlan};
 ghost use Rattle.ksi_world.specs.Histories.{after, happens, world_of};
 ghost use Rattle.ksi_records.specs.Entries.{restart_of, IsGiven, IsHead};
+ghost use Rattle.ksi_schedule.specs.Pieces.{Text};
 ghost use Rattle.ksi_records.specs.declared.head.Head.TheVariants as heads;
 ghost use Rattle.ksi_records.specs.Marks.{mark_of};
 ghost use Rattle.ksi_records.specs.Steps.{IsAnswer, IsRefusal};
-ghost use Rattle.ksi_records.specs.Told.{answer_as, event_of, with_head, sent_before, accepted_before, AreEarly, IsSent, IsAccepted, IsMissing, IsNamed, IsUnaccepted, IsUnnamed};
+ghost use Rattle.ksi_records.specs.Told.{answer_as, event_of, with_head, sent_before, accepted_before, AreEarly, HasCome, IsMessageLine, IsSent, IsAccepted, IsMissing, IsNamed, IsUnaccepted, IsUnnamed};
 
 use crate::fault::RecordFault;
 use crate::head::{Given, Head};
 use crate::mark::Mark;
-use crate::telling::{answer_as, block, is, is_block, signature_block};
+use crate::telling::{answer_as, block, is, is_block, is_line_of, signature_block};
+use crate::version::Version;
 use ksi_imprint::{Bytes, Compress, NoMemory, Refused};
 use ksi_schedule::{Actor, Event, Plan};
 use ksi_signature::Answer;
@@ -21,11 +24,11 @@ use std::marker::Model;
 /// What came of an entry.
 #[derive(Drop)]
 pub enum Told {
-    /// Its block is what the world says.
+    /// Its block is what the world says, and the line that came is the message's.
     Agrees,
-    /// Its block is another.
+    /// Its block, or the line that came, is another.
     Differs,
-    /// A step that happened and was never said agrees with any world. The world's block of it is here.
+    /// A step whose reply was lost agrees with any world. The world's block of it is here.
     Unsaid(Bytes),
 }
 
@@ -72,36 +75,57 @@ impl<C: Compress> Tracer<C> {
     pub fn steps(&self) -> usize
         ensures count { result ≡ length self.now.events }
         ensures allowed { AreEvents self.now.plan self.now.events }
+        ensures few { length self.now.events < 2 ^ 64 }
+        ensures plan { IsPlan self.now.plan }
     {
+        // a fact of each world: its plan is one
+        self.world.plan();
         self.world.events().len()
     }
 
-    /// The world takes what an entry's first line says. The answer is whether the block is what the world says to it.
+    /// The world takes what an entry's first line says. The answer is whether the block is what the world says to it, and the
+    /// line that came is the message's.
     ///
     /// # Errors
     /// `Message`, `Request`: the line names no message and no request. `NoMemory`.
-    pub fn take(&mut self, head: &Head, block: &[u8]) -> Result<Told, Refused<RecordFault>>
+    pub fn take(
+        &mut self,
+        version: Version,
+        head: &Head,
+        came: &[u8],
+        block: &[u8],
+    ) -> Result<Told, Refused<RecordFault>>
         requires { IsHead self.old.plan head.now }
-        ensures answer { IfOk result (IsAnswer C.image self.old.plan self.old.events head.now block.now) }
+        ensures answer { IfOk result (IsAnswer C.image self.old.plan version self.old.events head.now came.now block.now) }
         ensures refused { IfErr result (IsRefusal (IsMissing C.image self.old.plan self.old.events head.now)) }
         ensures events { OnOk result (self.new ≡ record { plan = self.old.plan; events = with_head C.image self.old.plan self.old.events head.now }) }
     {
         match head {
-            Head::Said(given) => self.said(given, block),
-            Head::Unsaid(given) => self.unsaid(given, block),
+            Head::Said(given) => self.said(version, given, came, block),
+            Head::Unsaid(given) => self.unsaid(version, given, came, block),
             Head::Restarted(actor) => self.restarted(*actor, block),
             Head::Sign(step) => self.signed(*step, block),
         }
     }
 
     /// A step, whose block is here.
-    fn said(&mut self, given: &Given, said: &[u8]) -> Result<Told, Refused<RecordFault>>
+    fn said(
+        &mut self,
+        version: Version,
+        given: &Given,
+        came: &[u8],
+        said: &[u8],
+    ) -> Result<Told, Refused<RecordFault>>
         requires { IsGiven self.old.plan given.now }
-        ensures answer { IfOk result (IsAnswer C.image self.old.plan self.old.events (heads.Said given.now) said.now) }
+        ensures answer { IfOk result (IsAnswer C.image self.old.plan version self.old.events (heads.Said given.now) came.now said.now) }
         ensures refused { IfErr result (IsRefusal (IsUnnamed C.image self.old.plan self.old.events given.now)) }
         ensures events { OnOk result (self.new ≡ record { plan = self.old.plan; events = with_head C.image self.old.plan self.old.events (heads.Said given.now) }) }
     {
+        let has_come = self.has_come(version, given, came)?;
         let (before, answer) = self.step(given)?;
+        if !has_come {
+            return Ok(Told::Differs);
+        }
         if is_block(self.alloc, &answer, self.wire(), before, said)? {
             Ok(Told::Agrees)
         } else {
@@ -109,14 +133,24 @@ impl<C: Compress> Tracer<C> {
         }
     }
 
-    /// A step that was never said.
-    fn unsaid(&mut self, given: &Given, said: &[u8]) -> Result<Told, Refused<RecordFault>>
+    /// A step whose reply was lost.
+    fn unsaid(
+        &mut self,
+        version: Version,
+        given: &Given,
+        came: &[u8],
+        said: &[u8],
+    ) -> Result<Told, Refused<RecordFault>>
         requires { IsGiven self.old.plan given.now }
-        ensures answer { IfOk result (IsAnswer C.image self.old.plan self.old.events (heads.Unsaid given.now) said.now) }
+        ensures answer { IfOk result (IsAnswer C.image self.old.plan version self.old.events (heads.Unsaid given.now) came.now said.now) }
         ensures refused { IfErr result (IsRefusal (IsUnnamed C.image self.old.plan self.old.events given.now)) }
         ensures events { OnOk result (self.new ≡ record { plan = self.old.plan; events = with_head C.image self.old.plan self.old.events (heads.Unsaid given.now) }) }
     {
+        let has_come = self.has_come(version, given, came)?;
         let (before, answer) = self.step(given)?;
+        if !has_come {
+            return Ok(Told::Differs);
+        }
         if !said.is_empty() {
             return Ok(Told::Differs);
         }
@@ -127,7 +161,7 @@ impl<C: Compress> Tracer<C> {
     /// A node was started again.
     fn restarted(&mut self, actor: Actor, said: &[u8]) -> Result<Told, Refused<RecordFault>>
         requires { IsEvent self.old.plan (restart_of actor) }
-        ensures answer { IfOk result (IsAnswer C.image self.old.plan self.old.events (heads.Restarted actor) said.now) }
+        ensures answer { (version : Version) (came : Text) → IfOk result (IsAnswer C.image self.old.plan version self.old.events (heads.Restarted actor) came said.now) }
         ensures refused { IfErr result (IsRefusal (λ fault. ⊥)) }
         ensures events { OnOk result (self.new ≡ record { plan = self.old.plan; events = with_head C.image self.old.plan self.old.events (heads.Restarted actor) }) }
     {
@@ -141,7 +175,7 @@ impl<C: Compress> Tracer<C> {
 
     /// The answer to whoever asked for the signature of the request that a step accepted.
     fn signed(&self, step: u64, said: &[u8]) -> Result<Told, Refused<RecordFault>>
-        ensures answer { IfOk result (IsAnswer C.image self.now.plan self.now.events (heads.Sign step) said.now) }
+        ensures answer { (version : Version) (came : Text) → IfOk result (IsAnswer C.image self.now.plan version self.now.events (heads.Sign step) came said.now) }
         ensures refused { IfErr result (IsRefusal (IsUnaccepted C.image self.now.plan self.now.events step)) }
     {
         let Some(number) = self.request_number(step) else {
@@ -153,6 +187,31 @@ impl<C: Compress> Tracer<C> {
             Ok(Told::Agrees)
         } else {
             Ok(Told::Differs)
+        }
+    }
+
+    /// Whether the line that came is that of the message that is named. Version 1 does not have the line.
+    fn has_come(&self, version: Version, given: &Given, came: &[u8]) -> Result<bool, NoMemory>
+        ensures { IfOk result (λ has_come. IsNamed C.image self.now.plan self.now.events given.now →
+            (IsTrue has_come ↔ HasCome C.image self.now.plan version self.now.events given.now came.now)) }
+    {
+        match version {
+            Version::One => Ok(true),
+            Version::Two => match given {
+                Given::Line(_, _) => Ok(true),
+                Given::Message(step, place) => self.is_line(*step, *place, came),
+            },
+        }
+    }
+
+    /// Whether a line is that of a message that a step sent.
+    fn is_line(&self, step: u64, place: u64, came: &[u8]) -> Result<bool, NoMemory>
+        ensures { IfOk result (λ is_line. IsSent C.image self.now.plan self.now.events step place →
+            (IsTrue is_line ↔ IsMessageLine (world_of C.image self.now).wire (sent_before C.image self.now.plan self.now.events step + place) came.now)) }
+    {
+        match self.message_number(step, place) {
+            Some(number) => is_line_of(self.alloc, self.wire(), number, came),
+            None => Ok(false),
         }
     }
 
@@ -234,7 +293,7 @@ impl<C: Compress> Tracer<C> {
         ensures wire { result.now ≡ (world_of C.image self.now).wire }
         ensures early { AreEarly result.now }
     {
-        // what is told of a world: its plan is one, and its events are the plan's
+        // facts of each world: its plan is one, and its events are the plan's
         self.world.plan();
         self.world.events();
         self.world.wire()

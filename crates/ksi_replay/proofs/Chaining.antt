@@ -93,13 +93,13 @@ module _ (image : List ℕ → List ℕ) where
   lead second [] start top is = is
   lead second (chain ∷ above) start top is = (is.0, is.1, is.2, lead second above is.0 top is.3)
 
-  pub issued_aggregated : ((signature : Signature) (chains : Aggregated) → 0 < length signature.chains → (aggregated image signature ≡ Ok chains) ↔ IsAggregated image (plain_chains signature.chains) (first_chain (plain_chains signature.chains)).input chains.time chains.item)
+  pub issued_aggregated : ((signature : Signature) (chains : Aggregated) → 0 < length signature.chains → (aggregated image signature ≡ Ok chains) ↔ IsAggregated image (plain_chains signature.chains) (first_chain (plain_chains signature.chains)).input chains.time chains.node)
       → (second : ℕ) (input : List ℕ) (links : List Link) (above : Above) (top : Node) → AreNotBare (own_chain input links ∷ above.chains) → ChainsClimb image (record { imprint = input; level = 0 }) (own_chain input links ∷ above.chains) top
-      → aggregated image (issued second input links above) ≡ Ok (record { time = second; item = top })
+      → aggregated image (issued second input links above) ≡ Ok (record { time = second; node = top })
   unfolding issued
   issued_aggregated aggregation second input links above top are climbs =
       let chains = own_chain input links ∷ above.chains in
-      (aggregation (issued second input links above) (record { time = second; item = top }) (omega arith)).1 (record {
+      (aggregation (issued second input links above) (record { time = second; node = top }) (omega arith)).1 (record {
         some = omega arith;
         order = nested second chains;
         shapes = shapes second chains;

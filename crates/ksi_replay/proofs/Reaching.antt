@@ -45,7 +45,7 @@ More = (roots more : Roots) (start p : ℕ) → IsCovered roots start p → ((t 
 
 -- the laws below
 pub record Laws (image : List ℕ → List ℕ) (journal : Contents) : Type 0 where
-  pub aggregates : (second : ℕ) (input : List ℕ) (links : List Link) (above : Above) (top : Node) → AreNotBare (own_chain input links ∷ above.chains) → ChainsClimb image (record { imprint = input; level = 0 }) (own_chain input links ∷ above.chains) top → aggregated image (issued second input links above) ≡ Ok (record { time = second; item = top })
+  pub aggregates : (second : ℕ) (input : List ℕ) (links : List Link) (above : Above) (top : Node) → AreNotBare (own_chain input links ∷ above.chains) → ChainsClimb image (record { imprint = input; level = 0 }) (own_chain input links ∷ above.chains) top → aggregated image (issued second input links above) ≡ Ok (record { time = second; node = top })
   pub rounds : RoundLaw
   pub whole : (second : ℕ) (input : List ℕ) (links : List Link) (above : Above) → MayBeIssued second input links above → IsSignature (signature_text (issued second input links above)) (issued second input links above)
   pub short : (second : ℕ) (input : List ℕ) (links : List Link) (above : Above) → MayBeIssued second input links above → length (signature_text (issued second input links above)) ≤ 10000
@@ -93,7 +93,7 @@ module _ (plan : PlanState) (w : WorldState) (journal : Contents) (keeps : Keeps
       signature = issued joined.asked.second joined.asked.imprint joined.links joined.above
 
       abbrev chains : Aggregated
-      chains = record { time = joined.asked.second; item = joined.top }
+      chains = record { time = joined.asked.second; node = joined.top }
 
       leads : (p : ℕ) → joined.asked.second ≤ p → IsCovered (kept_root plan w) plan.start p → LeadsToKept image journal text signature chains p
       leads p to covered = record {

@@ -4,7 +4,7 @@ use Rattle.ksi_calendar.specs.Covered.{covered_root}
 use Rattle.ksi_journal.specs.Journal.{Contents, root_at}
 use Rattle.ksi_journal.specs.Calendar.{calendar_of}
 
--- the last of so many seconds from the start on, none where there are none
+-- the last of this many seconds from the start on, or none
 abbrev pub last_from : (start count : ℕ) → Option ℕ
 last_from start zero = None
 last_from start (suc before) = Some (start + before)

@@ -39,8 +39,8 @@ delivered Drawn number = do
   k ← draw 8
   times (copies k) (happen (events.Deliver number))
 
--- each message from this number on, in order of number, those that these deliveries send included, until none is left; but
--- at most so many
+-- each message from this number on, in order of number, including those that these deliveries send, until none is left;
+-- but at most this many
 unfoldable pub delivers : (most : ℕ) → Manner → (first : ℕ) → Steps (Unit {0})
 delivers most manner first = each_message most first (delivered manner)
 
@@ -168,12 +168,12 @@ steps_of most i second = do
 abbrev pub second_made : (most i : ℕ) → Steps (Unit {0})
 second_made most i = steps_of most i (1700000000 + i)
 
--- so many seconds from number i on
+-- this many seconds from number i on
 abbrev pub seconds_made : (most count i : ℕ) → Steps (Unit {0})
 seconds_made most zero i = done tt
 seconds_made most (suc count) i = second_made most i >> seconds_made most count (suc i)
 
--- nothing is taken of a stream of so many places, and nothing has happened
+-- nothing is taken of a stream of this many places, and nothing has happened
 abbrev pub first_making : (places number : ℕ) → Making
 first_making places number = record { place = record { number = number; places = places; taken = 0 }; history = record { plan = header; events = [] } }
 
@@ -181,7 +181,8 @@ first_making places number = record { place = record { number = number; places =
 unfoldable pub all_seconds : (most : ℕ) → Steps (Unit {0})
 all_seconds most = seconds_made most 256 0
 
--- the schedule of a number, where its stream has so many places, and at most so many messages are looked at since an event
+-- the schedule of a number, if its stream has this many places, and at most this many messages are looked at since an
+-- event
 abbrev pub generated_within : (places most number : ℕ) → History
 generated_within places most number = (all_seconds most (first_making places number)).1.history
 

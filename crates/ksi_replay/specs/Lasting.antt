@@ -34,7 +34,7 @@ abbrev pub Publish : (List ℕ → List ℕ) → Contents → (p : ℕ) → List
 Publish image journal p publications = find p publications ≡ Some (covered_root image (root_at journal) journal.start p)
 
 -- The text is a signature and is extended to p. Against all publications that publish p so, it is then accepted, at the
--- second of the request and for its imprint, and an audit says where that imprint stands, or has a clash.
+-- second of the request and for its imprint, and an audit returns the place of that imprint, or a clash.
 pub record LastsTo (image : List ℕ → List ℕ) (journal : Contents) (asked : Asked) (text : List ℕ) (p : ℕ) : Type 0 where
   pub signature : Signature
   pub before : IsSignature text signature

@@ -30,7 +30,7 @@ first >> next = λ m. next (first m).1
 
 -- ---- the stream
 
--- the next so many bytes of the stream
+-- the next bytes of the stream, this many
 abbrev pub bytes : ℕ → Steps (List ℕ)
 bytes count = λ m. (stream m.place count, record m { place = further m.place count })
 
@@ -40,7 +40,7 @@ draw modulo = do
   eight ← bytes 8
   done (from_be_bytes w64 eight % modulo)
 
--- the next 32 bytes as a digest, which is an imprint behind its algorithm byte
+-- the next 32 bytes as a digest, which is an imprint after its algorithm byte
 unfoldable pub digest : Steps (List ℕ)
 digest = do
   all ← bytes 32
@@ -66,13 +66,13 @@ abbrev pub when : Bool → Steps (Unit {0}) → Steps (Unit {0})
 when true steps = steps
 when false steps = done tt
 
--- so many times in a row
+-- this many times in a row
 abbrev pub times : ℕ → Steps (Unit {0}) → Steps (Unit {0})
 times zero steps = done tt
 times (suc count) steps = steps >> times count steps
 
--- with each message from this number on, in order of number, those that are sent meanwhile included, until none is left; but
--- with at most so many, so that there is an end for any steps
+-- with each message from this number on, in order of number, including those that are sent meanwhile, until none is left;
+-- but with at most this many, so that there is an end for any steps
 abbrev pub each_message : (most first : ℕ) → (ℕ → Steps (Unit {0})) → Steps (Unit {0})
 each_message zero first steps = done tt
 each_message (suc most) first steps = do

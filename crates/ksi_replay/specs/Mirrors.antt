@@ -29,7 +29,7 @@ those_from f t (suc n) = put_before (f t) (those_from f (suc t) n)
 unfoldable pub each_second : {A : Type 0} → (ℕ → Option A) → (start : ℕ) → List A
 each_second f start = those_from f start (2 ^ 24)
 
--- a root behind its second
+-- a root after its second
 abbrev pub root_with : (ℕ → Option (List ℕ)) → (second : ℕ) → Option (ℕ × List ℕ)
 root_with roots t = option_map (λ root. (t, root)) (roots t)
 
@@ -42,7 +42,7 @@ list_at lists core t = option_map (list_with core t) (lists t)
 
 -- ---- what a core sealed
 
--- the items without their origins, where there are any
+-- the items without their origins, if there are any
 abbrev pub some_sealed : Option (List Entry) → Option (List Item)
 some_sealed None = None
 some_sealed (Some entries) = some_items (items_of entries)

@@ -11,17 +11,17 @@ block number i = sha256 (codes "ksi" ++ to_be_bytes w64 number ++ to_be_bytes w6
 unfoldable pub byte_of : (number k : ℕ) → ℕ
 byte_of number k = slice_index (block number (k / 32)) (k % 32)
 
--- a place in the stream of a number: how many bytes are taken. There are so many places, and then the stream begins anew.
+-- a place in the stream of a number: how many bytes are taken. After this many places the stream begins anew.
 pub record Place : Type 0 where
   pub number : ℕ
   pub places : ℕ
   pub taken : ℕ
 
--- the place behind so many more bytes
+-- the place after this many more bytes
 abbrev pub further : Place → (count : ℕ) → Place
 further p count = record { number = p.number; places = p.places; taken = (p.taken + count) % p.places }
 
--- so many bytes of the stream from a place on
+-- this many bytes of the stream from a place on
 abbrev pub stream : Place → (count : ℕ) → List ℕ
 stream p zero = []
 stream p (suc count) = byte_of p.number p.taken ∷ stream (further p 1) count

@@ -69,7 +69,7 @@ abbrev pub trial_for : (List ℕ → List ℕ) → Contents → (p : ℕ) → Op
 trial_for image journal p None extension = silent
 trial_for image journal p (Some asked) extension = judged image journal p asked.imprint extension
 
--- of an issued signature, which stands behind the number of its request
+-- of an issued signature, which follows the number of its request
 unfoldable pub trial : (List ℕ → List ℕ) → (requests : List Asked) → Contents → (p : ℕ) → (issued : ℕ × List ℕ) → Trial
 trial image requests journal p issued = trial_for image journal p (slice_get requests issued.0) (extension image journal issued.1 p)
 

@@ -22,7 +22,7 @@ pub(crate) fn greatest_covered(journal: &Journal<Sha>) -> Option<u64>
     last_from(start, journal.calendar().count())
 }
 
-/// The last of so many seconds from the start on.
+/// The last of this many seconds from the start on.
 fn last_from(start: u64, count: u64) -> Option<u64>
     requires { start + count ≤ 2 ^ 63 }
     ensures last { result ≡ last_from start count }

@@ -57,7 +57,7 @@ impl Maker {
         }
     }
 
-    /// A message is delivered so many times in a row.
+    /// A message is delivered this many times in a row.
     fn repeat(&mut self, count: u8, number: u64) -> Result<(), NoMemory>
         ensures { OnOk result (self.new ≡ (times count (happen (Event.Deliver number)) self.old).1) }
     {

@@ -28,6 +28,7 @@ ghost use Rattle.ksi_extender.specs.Extended.{extended};
 ghost use Rattle.ksi_world.specs.declared.outcome.Asked.{Asked};
 ghost use Rattle.ksi_world.specs.Joined.{ChainsClimb};
 ghost use Rattle.ksi_world.specs.Records.{issued_of, kept_root};
+ghost use Rattle.ksi_replay.specs.HoldsOver.{HoldsOver};
 ghost use Rattle.ksi_replay.specs.Joined.{IsPublished, Joined};
 ghost use Rattle.ksi_replay.specs.Lasting.{AreNotBare, KeepsRoots, LastsTo, Publish};
 ghost use Rattle.ksi_replay.specs.declared.manner.Manner as way;
@@ -39,6 +40,7 @@ use ksi_calendar::laws::{more_is_known, one_chain, one_climb, one_covered};
 use ksi_extender::laws::{covered_is_extended, extended_is_accepted, extension_is_bytes};
 use ksi_imprint::laws::hashes_are_bytes;
 use ksi_journal::laws::calendar_is_covered;
+use ksi_laws_facts::laws::history_is_recalled;
 use ksi_mirror::laws::mirror_is_what_it_has;
 use ksi_schedule::laws::spelled_is_schedule;
 use ksi_signature::laws::{issued_is_signature, round_links_are_not_bare};
@@ -46,7 +48,7 @@ use ksi_verifier::laws::aggregation;
 use ksi_world::laws::{
     agreement, answered_roots, held_stays, history_is_of_bytes, issued_is_carried,
     issued_is_joined, issued_is_short, kept_is_listed, published_is_listed, published_roots,
-    requests_are_few, sealed_is_listed, sealed_stays, validity,
+    requests_are_few, responses_climb, sealed_is_listed, sealed_stays, validity,
 };
 
 /// The journal of every history is one, whatever is lost, late or repeated and whoever restarts, where what is hashed are
@@ -76,7 +78,7 @@ pub fn journal_is_of_bytes()
 }
 
 /// The mirror of a core of a history has the plan's start, for each second the root that the core holds, and for each
-/// second the list of items that it sealed, where there are any; nothing of other cores.
+/// second the list of items that it sealed, if there are any; nothing of other cores.
 pub fn mirror_is_of_its_core()
     ensures start { (image : List ℕ → List ℕ) (history : History) (core : ℕ) → (mirror_of image history core).start ≡ history.plan.start }
     ensures roots { (image : List ℕ → List ℕ) (history : History) → IsPlan history.plan → AreEvents history.plan history.events →
@@ -133,14 +135,14 @@ pub fn issued_is_aggregated()
     ensures { (image : List ℕ → List ℕ) (second : ℕ) (input : List ℕ) (links : List Link) (above : Above) (top : Node) →
         AreNotBare (own_chain input links ∷ above.chains) →
         ChainsClimb image (record { imprint = input; level = 0 }) (own_chain input links ∷ above.chains) top →
-        aggregated image (issued second input links above) ≡ Ok (record { time = second; item = top }) }
+        aggregated image (issued second input links above) ≡ Ok (record { time = second; node = top }) }
 {
     aggregation();
 }
 
 /// After every history, each issued signature is extended to any covered second from its own on, and is then accepted;
-/// and an audit of it says where the request's imprint stands, or has a clash: over any journal that keeps what the cores
-/// keep, where the signature is bytes; so over the history's own, where what is hashed are imprints, of bytes.
+/// and an audit of it returns the place of the request's imprint, or a clash: over any journal that keeps what the cores
+/// keep, if the signature is bytes; so over the history's own, if the hashed values are imprints, of bytes.
 pub fn issued_lasts()
     ensures over { (image : List ℕ → List ℕ) (history : History) (journal : Contents) → ((bytes : List ℕ) → IsImprint (image bytes)) →
         IsPlan history.plan → AreEvents history.plan history.events → AskForImprints history.events →
@@ -232,6 +234,24 @@ pub fn history_is_joined()
     issued_lasts();
     answered_is_kept();
     published_is_kept();
+}
+
+/// All of this holds over every history, where what is hashed are imprints, of bytes; so over every history that a schedule
+/// spells.
+pub fn all_holds()
+    ensures any { (image : List ℕ → List ℕ) (history : History) →
+        ((bytes : List ℕ) → IsImprint (image bytes)) → ((bytes : List ℕ) → AreBytes (image bytes)) → IsHistory history →
+        HoldsOver image history }
+    ensures spelled { (schedule : List ℕ) (history : History) → IsScheduleText schedule history → HoldsOver imprint_of history }
+{
+    hashes_are_bytes();
+    spelled_is_schedule();
+    agreement();
+    held_stays();
+    history_is_recalled();
+    validity();
+    responses_climb();
+    history_is_joined();
 }
 
 /// Whatever an issued signature is extended to, over the history's own journal, are bytes.

@@ -10,6 +10,7 @@ use crate::journal::imprints_in;
 use ksi_corenode::Core;
 use ksi_imprint::{Compress, Imprint, NoMemory};
 use ksi_mirror::{Mirror, MirrorParts, SealedList};
+use ksi_synod::PLAN_SECONDS;
 use ksi_world::laws::sealed_is_listed;
 use ksi_world::{World, items_of};
 use std::alloc::Global;
@@ -47,7 +48,7 @@ fn copied<C: Compress>(
     ensures roots { IfOk result (λ parts. parts.roots.items ≡ each_second (root_with (held_by node.now)) start) }
     ensures lists { IfOk result (λ parts. parts.lists.items ≡ each_second (list_at (sealed_by node.now) core) start) }
 {
-    let end = start + 16_777_216;
+    let end = start + PLAN_SECONDS;
     let mut roots = Vec::new(alloc);
     let mut lists = Vec::new(alloc);
     let mut from = start;

@@ -18,7 +18,7 @@ use ksi_verifier::{Verdict, verify_view};
 use ksi_world::Asked;
 use std::alloc::Global;
 
-/// What becomes of an issued signature, which stands behind the number of its request, extended to `p` and tried against
+/// What becomes of an issued signature, which follows the number of its request, extended to `p` and tried against
 /// the root of `p`.
 #[tactic(auto, unfolding(crate::specs::Trials::trial))]
 pub(crate) fn trial(

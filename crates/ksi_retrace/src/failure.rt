@@ -1,4 +1,4 @@
-//! Why nothing was held.
+//! Why nothing was compared.
 use std::io::{self, ErrorKind};
 
 #[derive(Clone, Copy)]
@@ -9,9 +9,9 @@ pub(crate) enum Failure {
     Plan,
     /// The node is not in the plan.
     Node,
-    /// What is held cannot be read, or the output cannot be written.
+    /// The record or log cannot be read, or the output cannot be written.
     Stream,
-    /// Want of memory.
+    /// Out of memory.
     Memory,
 }
 

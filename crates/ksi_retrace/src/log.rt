@@ -8,7 +8,7 @@ use ksi_records::node_of;
 use ksi_schedule::{Actor, Plan};
 use std::io::{self, BufReader};
 
-/// Holds the log on standard input against the run of the node of a plan that a word names.
+/// Compares the log on standard input with the run of the node of a plan that a word names.
 pub(crate) fn hold(rt: &HostRuntime, plan: &Plan, word: &[u8]) -> io::Result<u8> {
     match node_of(plan, word) {
         Ok(me) => hold_log(rt, plan, me),

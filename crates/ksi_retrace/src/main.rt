@@ -1,10 +1,10 @@
-//! `ksi_retrace PLAN [RECORD]` holds the record of a live run against the world of its plan, and
-//! `ksi_retrace --node NODE PLAN` the log of one node, as `c0` or `a1`, against that node's own run.
+//! `ksi_retrace PLAN [RECORD]` compares the record of a live run with the world of its plan, and
+//! `ksi_retrace --node NODE PLAN` the log of one node, as `c0` or `a1`, with that node's own run.
 //!
 //! PLAN is a schedule file without events. The record comes from the file RECORD, or from standard input, entry by entry
-//! (docs/FORMATS.md, "Records of runs"). Of each step that was never said the program prints the place and the world's block.
+//! (docs/FORMATS.md, "Records of runs"). For each step whose reply was lost the program prints the place and the world's block.
 //! The log comes from standard input ("Logs of nodes"). The last line is `agrees` with counts, `differs` with the first entry
-//! whose block is not what the world or the node says at its place, `refused` with what is no entry, or `failed`.
+//! whose block is not the world's or the node's at its place, `refused` with what is no entry, or `failed`.
 #![tactic(auto)]
 
 mod failure;
@@ -47,7 +47,7 @@ fn run(rt: &HostRuntime) -> io::Result<u8> {
     }
 }
 
-/// Holds a record against the world of the plan in a file.
+/// Compares a record with the world of the plan in a file.
 fn hold<S: BufRead>(rt: &HostRuntime, plan: &str, record: &mut S) -> io::Result<u8> {
     match plan_in(rt, plan) {
         Ok(schedule) => hold_record(rt, schedule.plan(), record),
@@ -63,7 +63,7 @@ fn hold_record<S: BufRead>(rt: &HostRuntime, plan: &Plan, record: &mut S) -> io:
     }
 }
 
-/// Holds the log of a node against its run by the plan in a file.
+/// Compares the log of a node with its run by the plan in a file.
 fn hold_node(rt: &HostRuntime, plan: &str, node: &str) -> io::Result<u8> {
     match plan_in(rt, plan) {
         Ok(schedule) => log::hold(rt, schedule.plan(), node.as_bytes()),

@@ -15,6 +15,7 @@ pub mod Unread
 pub mod Reasons
 pub mod Untaken
 pub mod Leaving
+pub mod Unissued
 pub mod Unnoticed
 pub mod LastLine
 pub mod Telling

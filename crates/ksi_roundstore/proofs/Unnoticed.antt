@@ -8,14 +8,14 @@ use Rattle.ksi_signature.specs.declared.above.Above.{Above}
 use Rattle.ksi_aggregator.specs.declared.event.RoundEvent.{RoundEvent}
 use Rattle.ksi_aggregator.specs.declared.fact.Fact.{Fact}
 use Rattle.ksi_aggregator.specs.Events.{event_second, round_row}
-use Rattle.ksi_aggregator.specs.Facts.{StableRound, AnsweredLast}
+use Rattle.ksi_aggregator.specs.Facts.{StableRound, AnsweredLast, stable_round}
 use Rattle.ksi_aggregator.specs.Rounds.{AggregatorState, rounds_of}
-use Rattle.ksi_aggregator.specs.Rows.{RoundState, RoundTurn, round_still}
+use Rattle.ksi_aggregator.specs.Rows.{RoundState, RoundTurn, fresh_round, round_restarted, round_still}
 use Rattle.ksi_aggregator.specs.Lawful.{stored_by}
-use Rattle.ksi_aggregator.specs.Restored.{restored, IsOfFacts}
+use Rattle.ksi_aggregator.specs.Restored.{restored, HasFacts, IsOfFacts, IsWell}
 use Rattle.ksi_aggregator.specs.Settled.{IsSettled, settled_answer}
 use Rattle.ksi_roundstore.specs.Facts.{round_after}
-use Rattle.ksi_roundstore.specs.Left.{is_forgotten, left_before}
+use Rattle.ksi_roundstore.specs.Left.{is_forgotten, left_before, left_of}
 use Rattle.ksi_roundstore.specs.Forgotten.{closed_empty, IsGone, AreForgotten, SayTheSame, SayTheSameOf}
 use Rattle.ksi_roundstore.proofs.Leaving.{emptied, with_emptied, AreLeft}
 
@@ -49,6 +49,28 @@ rounds_left me before facts whole other of left_of last left t = by (is_forgotte
           settled = settled;
           empty = is_other true is ∙ emptied_round (stored_by facts t) (subst IsSettled (of.rounds t) settled);
         })
+
+-- THE ROUNDS OF AN AGGREGATOR THAT WAS STOPPED
+
+-- a round of its stable part alone is the round after a restart
+restored_again : (r : RoundState) → IsWell r → restored (stable_round r) ≡ round_restarted r
+restored_again r well = by r.closed refl
+  where
+    by : (o : Option (List Entry)) → r.closed ≡ o → restored (stable_round r) ≡ round_restarted r
+    by None at = (λ i. record { open_items = []; closed = at i; answered = well.last at i }) ∙ sym (ap (λ (o : Option (List Entry)). if is_some o then r else fresh_round) at)
+    by (Some entries) at = (λ i. record { open_items = sym (well.emptied entries at) i; closed = r.closed; answered = r.answered }) ∙ sym (ap (λ (o : Option (List Entry)). if is_some o then r else fresh_round) at)
+
+module _ (me : ℕ) (forgotten : ℕ → Bool) (facts : List Fact) (rounds : ℕ → RoundState) (other : AggregatorState) (t : ℕ) (has : HasFacts facts rounds) (of_left : IsOfFacts me (left_of forgotten facts) other)
+    (left : AreLeft forgotten facts) where
+  by_facts : (b : Bool) → forgotten t ≡ b → rounds_of other t ≡ restored (with_emptied b (stored_by facts t))
+  by_facts b is = of_left.rounds t ∙ ap restored (left.stored t) ∙ ap (λ (c : Bool). restored (with_emptied c (stored_by facts t))) is
+
+  pub round_stays : forgotten t ≡ false → rounds_of other t ≡ round_restarted (rounds t)
+  round_stays is = by_facts false is ∙ ap restored (sym (has.stored t)) ∙ restored_again (rounds t) (has.well t)
+
+  pub round_goes : forgotten t ≡ true → IsSettled (rounds t) → rounds_of other t ≡ closed_empty
+  round_goes is settled = by_facts true is ∙ ap (λ (s : StableRound). restored (emptied s)) (sym (has.stored t))
+      ∙ ap (λ (o : Option (List Entry)). restored (emptied (record { closed = o; answered = (rounds t).answered }))) settled.closed
 
 -- EVENTS IN ANY NUMBER
 

@@ -1,4 +1,4 @@
--- Which events make a fact.
+-- The events that make up a fact.
 use Rattle.std.specs.Prelude.{◌≡◌, ℕ, ◌==◌, Bool, true, false, if◌then◌else◌, List, [], ◌∷◌, ◌++◌}
 use Rattle.std.specs.List.{list_all}
 use Rattle.ksi_signature.specs.declared.answer.Answer.{Answer}
@@ -15,7 +15,7 @@ is_item_of second (events.Submission from t item) = t == second
 is_item_of second (events.Close t) = false
 is_item_of second (events.Response t above) = false
 
--- after these events this is the last one of a fact
+-- after these events, this one completes a fact
 abbrev pub is_last_behind : (items : List RoundEvent) → RoundEvent → Bool
 is_last_behind items (events.Request number t imprint name) = false
 is_last_behind items (events.Submission from t item) = false
@@ -23,18 +23,18 @@ is_last_behind items (events.Close second) = list_all (is_item_of second) items
 is_last_behind [] (events.Response second above) = true
 is_last_behind (item ∷ items) (events.Response second above) = false
 
--- these are all events of a fact, or they are not
+-- these events make up a fact, or they do not
 abbrev pub IsMade : List RoundEvent → Bool → Type 0
 IsMade list true = (items : List RoundEvent) × (last : RoundEvent) × (list ≡ items ++ last ∷ []) × (is_last_behind items last ≡ true)
 IsMade list false = (items : List RoundEvent) (last : RoundEvent) → list ≡ items ++ last ∷ [] → is_last_behind items last ≡ false
 
--- an event was accepted: a request has its number, and anything else was done
+-- an event was accepted: the answer is Number for a request, and Done for any other
 abbrev pub is_accepted : Answer → Bool
 is_accepted answers.Done = true
 is_accepted (answers.Number number) = true
 is_accepted _ = false
 
--- an event may come to rounds, and is accepted
+-- an event is allowed in these rounds, and is accepted
 pub record IsAccepted (image : List ℕ → List ℕ) (rounds : ℕ → RoundState) (event : RoundEvent) : Type 0 where
   pub may : MayTake rounds event
   pub accepted : is_accepted (round_row image event (rounds (event_second event))).answer ≡ true
@@ -54,12 +54,12 @@ AreAccepted image rounds (event ∷ list) = IsAccepted image rounds event × Are
 
 -- ---- in the code
 
--- an event was accepted, and its row was taken; or it is not accepted
+-- an event was accepted and its row applied; or it is not accepted
 abbrev pub TakesAs : (List ℕ → List ℕ) → (old new : ℕ → RoundState) → RoundEvent → Bool → Type 0
 TakesAs image old new event true = IsAccepted image old event × ((t : ℕ) → new t ≡ round_after image old event t)
 TakesAs image old new event false = IsAccepted image old event → ⊥
 
--- events were accepted, and their rows were taken; or they are not all accepted
+-- events were accepted and their rows applied; or not all are accepted
 abbrev pub TakesAll : (List ℕ → List ℕ) → (old new : ℕ → RoundState) → List RoundEvent → Bool → Type 0
 TakesAll image old new list true = AreAccepted image old list × ((t : ℕ) → new t ≡ rounds_after image old list t)
 TakesAll image old new list false = AreAccepted image old list → ⊥

@@ -1,4 +1,4 @@
--- What opening makes of the records of a file: the aggregator of their facts, one after the other.
+-- The aggregator restored from the records of a file, one after the other.
 use Rattle.std.specs.Prelude.{ℕ, List, [], ◌∷◌, ◌++◌, true, false, Bool, Result, Ok, Err, ◌≡◌, ◌+◌, length}
 use Rattle.ksi_schedule.specs.Plans.{PlanState}
 use Rattle.ksi_aggregator.specs.declared.fact.Fact.{Fact}
@@ -10,16 +10,16 @@ use Rattle.ksi_roundstore.specs.declared.refusal.OpenRefusal.{OpenRefusal}
 use Rattle.ksi_roundstore.specs.declared.refusal.OpenRefusal.TheVariants.{Failed, NotFormatted, Foreign, Malformed, NoMemory}
 use Rattle.ksi_roundstore.specs.Written.{AreTexts, IsTextOf}
 
--- the records are the texts of these facts, each of which is lawful after those before it
+-- the records encode these facts, each of which is valid after those before it
 pub record AreFactsOf (plan : PlanState) (me : ℕ) (facts : List Fact) (records : List (List ℕ)) : Type 0 where
   pub texts : AreTexts plan me facts records
   pub lawful : AreLawful facts
 
--- the content is no text of a fact that is lawful after these
+-- the content does not encode a fact that is valid after these
 abbrev pub HasNoFact : PlanState → (me : ℕ) → List Fact → List ℕ → Type 0
 HasNoFact plan me facts content = (fact : Fact) → IsTextOf plan me fact content → IsLawful (stored_by facts) fact → ⊥
 
--- a record at this place is no text of a fact that is lawful after the facts of the records before it
+-- the record at this place does not encode a fact that is valid after those of the records before it
 pub record IsFault (plan : PlanState) (me : ℕ) (records : List (List ℕ)) (place : ℕ) : Type 0 where
   pub facts : List Fact
   pub before : List (List ℕ)
@@ -30,14 +30,13 @@ pub record IsFault (plan : PlanState) (me : ℕ) (records : List (List ℕ)) (pl
   pub here : place ≡ 20 + length (records_text before)
   pub none : HasNoFact plan me facts content
 
--- an aggregator of facts goes on with a record: it is the aggregator with the record's fact too, or the record is no lawful
--- fact's
+-- an aggregator of facts takes a record: it is the aggregator with that fact too, or the record encodes no valid fact
 abbrev pub GoesOn : PlanState → (me : ℕ) → List Fact → List ℕ → AggregatorState → Bool → Type 0
 GoesOn plan me facts content aggregator true =
     (fact : Fact) × IsTextOf plan me fact content × AreLawful (facts ++ fact ∷ []) × IsOfFacts me (facts ++ fact ∷ []) aggregator
 GoesOn plan me facts content aggregator false = HasNoFact plan me facts content
 
--- the aggregator of the facts whose texts the records are
+-- the aggregator of the facts that the records encode
 abbrev pub IsAggregatorOf : PlanState → (me : ℕ) → List (List ℕ) → AggregatorState → Type 0
 IsAggregatorOf plan me records aggregator = (facts : List Fact) × AreFactsOf plan me facts records × IsOfFacts me facts aggregator
 

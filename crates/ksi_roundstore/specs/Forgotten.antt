@@ -1,4 +1,4 @@
--- An aggregator that forgot rounds, beside one that forgot none.
+-- An aggregator that forgot rounds, compared with one that forgot none.
 use Rattle.std.specs.Prelude.{◌≡◌, ◌⊎◌, ℕ, ◌<◌, List, [], ◌∷◌, Some, None}
 use Rattle.ksi_aggregator.specs.declared.event.RoundEvent.{RoundEvent}
 use Rattle.ksi_aggregator.specs.Events.{event_second, round_row}
@@ -20,13 +20,13 @@ pub record IsGone (before second : ℕ) (round forgot : RoundState) : Type 0 whe
 abbrev pub AreForgotten : (before : ℕ) → (rounds forgot : ℕ → RoundState) → Type 0
 AreForgotten before rounds forgot = (t : ℕ) → (forgot t ≡ rounds t) ⊎ IsGone before t (rounds t) (forgot t)
 
--- two turns answer, store and send the same
+-- two turns have the same answer, fact and messages
 pub record SayTheSame (one other : RoundTurn) : Type 0 where
   pub answer : one.answer ≡ other.answer
   pub fact : one.fact ≡ other.fact
   pub sends : one.sends ≡ other.sends
 
--- so do the turns of each of these events, in their order
+-- so do the turns of each of these events, in order
 abbrev pub SayTheSameOf : (image : List ℕ → List ℕ) → (rounds forgot : ℕ → RoundState) → List RoundEvent → Type 0
 SayTheSameOf image rounds forgot [] = Unit {0}
 SayTheSameOf image rounds forgot (event ∷ list) =

@@ -1,4 +1,4 @@
--- ---- in the code: what is told of a record by its last line
+-- ---- in the code: the kind of a record, by its last line
 use Rattle.std.specs.Prelude.{◌≡◌, ◌⊎◌, ◌<◌, ◌^◌, ◌≤◌, ◌==◌, ℕ, Bool, false, if◌then◌else◌, List, [], ◌∷◌, ◌++◌, length, take, All}
 use Rattle.ksi_schedule.specs.Plans.{PlanState}
 use Rattle.ksi_aggregator.specs.declared.event.RoundEvent.{RoundEvent}
@@ -39,11 +39,11 @@ answers (kinds.Closed second) t = false
 answers (kinds.Answered second) t = t == second
 answers kinds.Other t = false
 
--- lines stand in front, each with its line feed, or nothing does
+-- the text before is empty, or consists of lines with line feeds
 abbrev pub IsEnded : List ℕ → Type 0
 IsEnded front = (front ≡ []) ⊎ ((rest : List ℕ) × (front ≡ rest ++ 10 ∷ []))
 
--- a text was put behind another: records, which are the texts of what is left of the fact of a content
+-- records were appended to a text: those of the facts left of the fact in a content
 pub record IsPutOf (plan : PlanState) (me : ℕ) (forgotten : ℕ → Bool) (content old new : List ℕ) (count : ℕ) : Type 0 where
   pub left : List (List ℕ)
   pub text_is : new ≡ old ++ records_text left
@@ -52,13 +52,13 @@ pub record IsPutOf (plan : PlanState) (me : ℕ) (forgotten : ℕ → Bool) (con
   pub counted : count ≡ length left
   pub few : count ≤ 1
 
--- what stays of the record of a kind: of a forgotten round the last line of its closing, and nothing of its response
+-- the part of a record that is kept, by its kind: of a forgotten round the last line of its closing, and nothing of its response
 abbrev pub stays : (forgotten : ℕ → Bool) → Kind → Stays
 stays forgotten (kinds.Closed second) = if forgotten second then stay.LastLine else stay.Whole
 stays forgotten (kinds.Answered second) = if forgotten second then stay.Nothing else stay.Whole
 stays forgotten kinds.Other = stay.Whole
 
--- a text was put behind another: records, which are the texts of what is left of the facts of the first of these records
+-- records were appended to a text: those of the facts left of the facts in the first of these records
 pub record IsPutAll (plan : PlanState) (me : ℕ) (forgotten : ℕ → Bool) (records : List (List ℕ)) (k : ℕ) (old new : List ℕ) (count : ℕ) : Type 0 where
   pub left : List (List ℕ)
   pub text_is : new ≡ old ++ records_text left
@@ -67,13 +67,13 @@ pub record IsPutAll (plan : PlanState) (me : ℕ) (forgotten : ℕ → Bool) (re
   pub counted : count ≡ length left
   pub few : count ≤ k
 
--- the records that stay of one
+-- the records kept of one
 abbrev pub records_stay : Stays → (content last : List ℕ) → List (List ℕ)
 records_stay stay.Whole content last = content ∷ []
 records_stay stay.LastLine content last = last ∷ []
 records_stay stay.Nothing content last = []
 
--- a text was put behind another: these records, at most one
+-- these records, at most one, were appended to a text
 pub record IsPut (left : List (List ℕ)) (old new : List ℕ) (count : ℕ) : Type 0 where
   pub text_is : new ≡ old ++ records_text left
   pub small : All (λ one. length one < 2 ^ 32) left

@@ -1,4 +1,4 @@
--- The refusal of a reading as one of an opening.
+-- A refusal of reading, as a refusal of opening.
 use Rattle.ksi_disk.specs.declared.refusal.ReadRefusal.{ReadRefusal}
 use Rattle.ksi_disk.specs.declared.refusal.ReadRefusal.TheVariants as read
 use Rattle.ksi_roundstore.specs.declared.refusal.OpenRefusal.{OpenRefusal}

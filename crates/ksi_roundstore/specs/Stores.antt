@@ -1,4 +1,4 @@
--- What an aggregator's file says: the facts of an aggregator. And the store of one.
+-- The meaning of an aggregator's file: the facts of an aggregator; and its store.
 use Rattle.std.specs.Prelude.{◌≡◌, ◌⊎◌, ℕ, List, take, Option, Some}
 use Rattle.std.specs.List.{AllByRecursion}
 use Rattle.ksi_schedule.specs.Plans.{PlanState}
@@ -14,8 +14,7 @@ use Rattle.ksi_roundstore.specs.StoreState.{StoreState, records_in}
 use Rattle.ksi_roundstore.specs.Texts.{event_of}
 use Rattle.ksi_roundstore.specs.Written.{AreTexts, IsWritten}
 
--- the file of aggregator me of a plan, with these facts in its records, up to a closed gate; what stands behind that does not
--- count
+-- a file of aggregator me of a plan with these facts in its records, up to a closed commit byte; later bytes do not count
 pub record IsFileOf (me : ℕ) (plan : PlanState) (facts : List Fact) (file : List ℕ) : Type 0 where
   pub gate : ℕ
   pub head : header_at (take 20 file) ≡ Some (record { aggregator = me; start = plan.start })
@@ -23,12 +22,12 @@ pub record IsFileOf (me : ℕ) (plan : PlanState) (facts : List Fact) (file : Li
   pub lawful : AreLawful facts
   pub closed : (reading_of 20 file).ending ≡ ending.Closed gate
 
--- a file of these facts, with one more or without it
+-- a file of these facts, with or without one more
 abbrev pub IsFileBeforeOrAfter : (me : ℕ) → PlanState → List Fact → Option Fact → List ℕ → Type 0
 IsFileBeforeOrAfter me plan facts more file = IsFileOf me plan facts file ⊎ IsFileOf me plan (with_new facts more) file
 
--- The store of aggregator me of a plan with these facts: they are in the file, which is on the disk for good, and the
--- aggregator has stored them and no others. Each open item came by an event that its line says again.
+-- The store of aggregator me of a plan with these facts: they are in the file, which is durable, and the aggregator has
+-- stored exactly these. Each open item came by an event that its line encodes.
 pub record IsStoreOf {D : Type 0} (content : D → List ℕ) (images : D → List ℕ → Type 0) (me : ℕ) (plan : PlanState) (facts : List Fact) (store : StoreState D) : Type 0 where
   pub mine : store.aggregator.me ≡ me
   pub has : HasFacts facts (rounds_of store.aggregator)

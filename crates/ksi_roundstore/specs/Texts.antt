@@ -1,4 +1,4 @@
--- How a fact of an aggregator is spelled: as the lines of the events that make it.
+-- The encoding of a fact of an aggregator: the lines of its events.
 use Rattle.std.specs.Prelude.{ℕ, List, [], ◌∷◌, ◌++◌, map, Option, Some, None}
 use Rattle.ksi_aggtree.specs.declared.entries.Entry.{Entry}
 use Rattle.ksi_aggtree.specs.declared.entries.Origin.{Origin}
@@ -13,7 +13,7 @@ use Rattle.ksi_schedule.specs.Pieces.{Text}
 use Rattle.ksi_schedule.specs.Printed.{text_of_lines}
 use Rattle.ksi_wire.specs.RoundLines.{round_words}
 
--- what brought an item to the round of a second
+-- the event that brought an item to the round of a second
 abbrev pub event_from : (second : ℕ) → Origin → Item → RoundEvent
 event_from second (origins.Request number) item = events.Request number second item.imprint item.name
 event_from second (origins.Aggregator from) item = events.Submission from second item
@@ -25,7 +25,7 @@ event_of second entry = event_from second entry.origin entry.item
 abbrev pub lines_of : List RoundEvent → Text
 lines_of list = text_of_lines (map round_words list)
 
--- the lines of the events that make a fact: those of a round's items and its closing, or that of its response
+-- the lines of the events of a fact: those of a round's items and its closing, or that of its response
 abbrev pub what_text : (second : ℕ) → RoundFact → Text
 what_text second (Closed items) = lines_of (map (event_of second) items) ++ lines_of (events.Close second ∷ [])
 what_text second (Answered above) = lines_of (events.Response second above ∷ [])
@@ -33,7 +33,7 @@ what_text second (Answered above) = lines_of (events.Response second above ∷ [
 abbrev pub fact_text : Fact → Text
 fact_text fact = what_text fact.second fact.what
 
--- a record for the fact, if there is one, behind others
+-- records followed by one for the fact, if there is one
 abbrev pub with_record : List Text → Option Fact → List Text
 with_record records None = records
 with_record records (Some fact) = records ++ fact_text fact ∷ []

@@ -1,4 +1,4 @@
--- Which events have a line that is read again, and which facts a text.
+-- The events whose lines are read back as themselves, and the facts with a text.
 use Rattle.std.specs.Prelude.{◌≡◌, ℕ, ◌==◌, false, List, [], ◌∷◌, ◌++◌, map, Ok}
 use Rattle.std.specs.List.{AllByRecursion}
 use Rattle.ksi_aggtree.specs.declared.entries.Entry.{Entry}
@@ -23,24 +23,24 @@ abbrev pub IsLine : Text → Type 0
 IsLine [] = Unit {0}
 IsLine (b ∷ text) = ((b == 10) ≡ false) × IsLine text
 
--- an event to aggregator me of a plan that its line says again: the line has no line feed, and is read as this event
+-- an event to aggregator me of a plan that its line encodes: the line has no line feed, and is read as this event
 pub record IsWritten (plan : PlanState) (me : ℕ) (event : RoundEvent) : Type 0 where
   pub line : IsLine (line_of (round_words event))
   pub fits : FitsRound event
   pub asked : aggregator_line_of plan me (line_of (round_words event)) ≡ Ok (lines.Event event)
 
--- a line is read as this event: it is its line, and where it has no line feed, the event is written by it
+-- a line is read as this event: it is the event's line, and if it has no line feed, it encodes the event
 pub record IsReadAs (plan : PlanState) (me : ℕ) (line : Text) (event : RoundEvent) : Type 0 where
   pub text : line ≡ line_of (round_words event)
   pub written : IsLine line → IsWritten plan me event
 
--- the lines of events to aggregator me of a plan that their lines say again make this text
+-- this text consists of the lines of events to aggregator me of a plan, which encode them
 pub record AreLinesIn (plan : PlanState) (me : ℕ) (text : Text) : Type 0 where
   pub list : List RoundEvent
   pub text_is : text ≡ lines_of list
   pub written : AllByRecursion (IsWritten plan me) list
 
--- the events that make a fact: those of a round's items and its closing, or that of its response
+-- the events of a fact: those of a round's items and its closing, or that of its response
 abbrev pub what_events : (second : ℕ) → RoundFact → List RoundEvent
 what_events second (Closed items) = map (event_of second) items ++ events.Close second ∷ []
 what_events second (Answered above) = events.Response second above ∷ []
@@ -48,19 +48,19 @@ what_events second (Answered above) = events.Response second above ∷ []
 abbrev pub fact_events : Fact → List RoundEvent
 fact_events fact = what_events fact.second fact.what
 
--- the content is the text of a fact, whose events are written
+-- the content is the text of a fact, whose lines encode its events
 pub record IsTextOf (plan : PlanState) (me : ℕ) (fact : Fact) (content : List ℕ) : Type 0 where
   pub written : AllByRecursion (IsWritten plan me) (fact_events fact)
   pub text : content ≡ fact_text fact
 
--- each record is the text of the fact at its place
+-- each record is the text of the fact with the same index
 abbrev pub AreTexts : PlanState → (me : ℕ) → List Fact → List (List ℕ) → Type 0
 AreTexts plan me [] [] = Unit {0}
 AreTexts plan me [] (content ∷ contents) = ⊥
 AreTexts plan me (fact ∷ facts) [] = ⊥
 AreTexts plan me (fact ∷ facts) (content ∷ contents) = IsTextOf plan me fact content × AreTexts plan me facts contents
 
--- an item of a request has level 0: its line says no level
+-- an item of a request has level 0: its line has no level
 abbrev pub IsPlainItem : Origin → Item → Type 0
 IsPlainItem (origins.Request number) item = item.level ≡ 0
 IsPlainItem (origins.Aggregator from) item = Unit {0}

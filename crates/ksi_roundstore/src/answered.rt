@@ -10,7 +10,8 @@ ghost use Rattle.ksi_roundstore.specs.Kinds.{answers, kind_of};
 use crate::kind::Kind;
 use crate::kinds::kind_of;
 use ksi_aggregator::laws::facts_one_by_one;
-use ksi_imprint::{Bytes, NoMemory};
+use ksi_disk::Records;
+use ksi_imprint::NoMemory;
 use ksi_schedule::Plan;
 use std::alloc::Global;
 use std::collections::BTreeSet;
@@ -20,14 +21,14 @@ pub(crate) fn answered_in(
     alloc: Global,
     plan: &Plan,
     me: u32,
-    records: &[Bytes],
+    records: &Records,
 ) -> Result<BTreeSet<u64>, NoMemory>
     ensures { IfOk result (λ answered. (facts : List Fact) → AreTexts plan.now me facts records.now → (t : ℕ) → contains nat_cmp answered t ≡ is_some (stored_by facts t).answered) }
 {
     facts_one_by_one();
     let mut answered = BTreeSet::new(alloc);
     'noting: for k in 0..records.len() {
-        note(alloc, plan, me, records[k].as_slice(), &mut answered)?;
+        note(alloc, plan, me, records.get(k), &mut answered)?;
     }
     Ok(answered)
 }

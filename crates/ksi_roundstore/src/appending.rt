@@ -8,7 +8,7 @@ ghost use Rattle.ksi_roundstore.specs.Takes.{AffordsFor, HasEither, HasStored, I
 use ksi_aggregator::Fact;
 use ksi_disk::{Disk, DiskFailed, GateLog, Record};
 
-/// Appends the record of a fact, where there is one.
+/// Appends the record of a fact, if there is one.
 pub(crate) fn keep<D: Disk>(
     log: &mut GateLog<D>,
     record_: Option<Record>,

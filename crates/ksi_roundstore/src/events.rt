@@ -59,7 +59,7 @@ fn read_line(
     }
 }
 
-/// The first line of a text and what follows it; none where there is no line feed.
+/// The first line of a text and what follows it; none if there is no line feed.
 fn next_line(text: &[u8]) -> Option<(&[u8], &[u8])>
     ensures text { IfSome result (λ parts. text.now ≡ parts.0.now ++ 10 ∷ parts.1.now) }
     ensures line { IfSome result (λ parts. IsLine parts.0.now) }

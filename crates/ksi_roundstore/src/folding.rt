@@ -16,17 +16,18 @@ use crate::events::read_events;
 use crate::shape::is_fact;
 use ksi_aggregator::laws::{facts_one_by_one, one_aggregator_of_facts};
 use ksi_aggregator::{Aggregator, RoundEvent, Step};
-use ksi_imprint::{Bytes, Compress, NoMemory};
+use ksi_disk::Records;
+use ksi_imprint::{Compress, NoMemory};
 use ksi_schedule::Plan;
 use ksi_signature::Answer;
 use std::alloc::Global;
 
-/// The aggregator of the facts that the records spell, which stand behind a header and end at this place.
+/// The aggregator of the facts that the records spell, which follow a header and end at this place.
 pub(crate) fn fold_records<C: Compress>(
     alloc: Global,
     me: u32,
     plan: &Plan,
-    records: &[Bytes],
+    records: &Records,
     end: u64,
 ) -> Result<Aggregator<C>, OpenRefusal>
     requires end { 20 + length (records_text records.now) ≡ end }
@@ -37,7 +38,7 @@ pub(crate) fn fold_records<C: Compress>(
     let mut aggregator = Aggregator::new(alloc, me);
     let mut place = 20;
     'folding: for k in 0..records.len() {
-        let content = records[k].as_slice();
+        let content = records.get(k);
         if !fold_record(alloc, plan, &mut aggregator, content)? {
             return Err(OpenRefusal::Malformed(place));
         }

@@ -15,7 +15,7 @@ pub(crate) fn last_line(content: &[u8]) -> &[u8]
     }
 }
 
-/// What stands behind the last line feed of a part in front.
+/// The part after the last line feed of a part in front.
 fn behind_feed<'t>(content: &'t [u8], body: &[u8]) -> &'t [u8]
     requires { (last : ℕ) × (content.now ≡ body.now ++ last ∷ []) }
     ensures { (front line : List ℕ) → content.now ≡ front ++ (line ++ 10 ∷ []) → IsEnded front → IsLine line → result.now ≡ line ++ 10 ∷ [] }

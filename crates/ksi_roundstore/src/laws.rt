@@ -1,6 +1,6 @@
 //! What holds of the files of aggregators, and of one that forgot rounds, for the layers above to cite. These functions do
 //! nothing.
-ghost use Rattle.std.specs.Prelude.{◌≡◌, ◌≢◌, All, ◌<◌, ◌≤◌, ◌^◌, ℕ, Bool, List, [], length, Ok};
+ghost use Rattle.std.specs.Prelude.{◌≡◌, ◌≢◌, All, ◌<◌, ◌≤◌, ◌^◌, ◌⊎◌, ℕ, Bool, true, false, List, [], length, slice_get, Ok, Some};
 ghost use Rattle.ksi_disk.specs.Images.{LeavesOnly};
 ghost use Rattle.ksi_schedule.specs.Pieces.{Text};
 ghost use Rattle.ksi_schedule.specs.Plans.{IsPlan, PlanState};
@@ -12,13 +12,15 @@ ghost use Rattle.ksi_aggregator.specs.declared.event.RoundEvent.{RoundEvent};
 ghost use Rattle.ksi_aggregator.specs.declared.fact.Fact.{Fact};
 ghost use Rattle.ksi_aggregator.specs.declared.step.Step.{Step};
 ghost use Rattle.ksi_aggregator.specs.Events.{event_second, MayTake, round_row};
-ghost use Rattle.ksi_aggregator.specs.Issuing.{IsIssued, IsIssuedAt};
-ghost use Rattle.ksi_aggregator.specs.Rounds.{AggregatorState, rounds_of, ChangesOnly};
+ghost use Rattle.ksi_aggregator.specs.Issuing.{from_request, IsIssued, IsIssuedAt, NotIssued};
+ghost use Rattle.ksi_aggregator.specs.Rounds.{AggregatorState, items_in, rounds_of, ChangesOnly};
 ghost use Rattle.ksi_aggregator.specs.Rows.{RoundState, round_restarted};
-ghost use Rattle.ksi_aggregator.specs.Lawful.{AreLawful, with_new};
+ghost use Rattle.ksi_aggregator.specs.Lawful.{AreApart, AreLawful, with_new};
 ghost use Rattle.ksi_aggregator.specs.Restored.{HasFacts, IsOfFacts};
+ghost use Rattle.ksi_aggregator.specs.Settled.{IsSettled};
+ghost use Rattle.ksi_aggtree.specs.declared.item.Item.{Item};
 ghost use Rattle.ksi_roundstore.specs.Crashes.{IsRestarted, IsRestartedEither};
-ghost use Rattle.ksi_roundstore.specs.Forgotten.{AreForgotten, SayTheSame, SayTheSameOf};
+ghost use Rattle.ksi_roundstore.specs.Forgotten.{AreForgotten, closed_empty, IsGone, SayTheSame, SayTheSameOf};
 ghost use Rattle.ksi_roundstore.specs.Headers.{empty_file};
 ghost use Rattle.ksi_roundstore.specs.Left.{left_before, left_of};
 ghost use Rattle.ksi_roundstore.specs.Opens.{IsOutside, IsRefused, OpensAs};
@@ -100,22 +102,27 @@ pub fn a_new_file_has_no_facts()
     records_are_read_again();
 }
 
-/// A file of facts is opened, unless the disk fails or memory is wanting.
+/// A file of facts is opened, unless the disk fails or memory runs out.
 pub fn files_of_facts_are_opened()
     ensures { (me : ℕ) (plan : PlanState) (facts : List Fact) (file : List ℕ) (refusal : OpenRefusal) → IsFileOf me plan facts file → IsRefused me plan file refusal → IsOutside refusal }
 {}
 
-/// A file is refused for one reason, but for a disk that failed or want of memory.
+/// A file is refused for one reason, unless the disk fails or memory runs out.
 pub fn files_are_refused_for_one_reason()
     ensures { (me : ℕ) (plan : PlanState) (file : List ℕ) (one other : OpenRefusal) → IsRefused me plan file one → IsRefused me plan file other → (IsOutside one → ⊥) → (IsOutside other → ⊥) → one ≡ other }
 {}
 
 /// What is left of lawful facts is lawful, whichever rounds are forgotten. An aggregator of the facts left has the rounds of
-/// one of all facts, but for those that are gone.
+/// one of all facts, but for those that are gone. So an aggregator that was stopped, and opened over what is left, has each
+/// round that stays as a restart leaves it, and each settled one that is forgotten closed without items.
 pub fn facts_left_are_lawful()
     ensures lawful { (forgotten : ℕ → Bool) (facts : List Fact) → AreLawful facts → AreLawful (left_of forgotten facts) }
     ensures rounds { (me before : ℕ) (facts : List Fact) (whole other : AggregatorState) → AreLawful facts → IsOfFacts me facts whole → IsOfFacts me (left_before before facts) other →
         AreForgotten before (rounds_of whole) (rounds_of other) }
+    ensures stay { (me : ℕ) (forgotten : ℕ → Bool) (facts : List Fact) (rounds : ℕ → RoundState) (other : AggregatorState) (t : ℕ) → HasFacts facts rounds → IsOfFacts me (left_of forgotten facts) other →
+        forgotten t ≡ false → rounds_of other t ≡ round_restarted (rounds t) }
+    ensures gone { (me : ℕ) (forgotten : ℕ → Bool) (facts : List Fact) (rounds : ℕ → RoundState) (other : AggregatorState) (t : ℕ) → HasFacts facts rounds → IsOfFacts me (left_of forgotten facts) other →
+        forgotten t ≡ true → IsSettled (rounds t) → rounds_of other t ≡ closed_empty }
 {
     facts_one_by_one();
     one_aggregator_of_facts();
@@ -136,10 +143,15 @@ pub fn forgetting_is_not_noticed()
     settled_rounds_stay();
 }
 
-/// What an aggregator that forgot rounds issues, it would have issued; and of each second that is not before, it issues what
-/// it would have.
+/// What an aggregator that forgot rounds issues, it would have issued. Each signature that it would have issued it still issues,
+/// unless the round of the signature is gone, which is of an earlier second (`kept`, `stays`). Of a request whose item is in a
+/// round that is gone, it issues nothing: no other round has its number.
 pub fn no_other_signature_is_issued()
     ensures no_other { (image : List ℕ → List ℕ) (before : ℕ) (rounds forgot : ℕ → RoundState) (number : ℕ) (bytes : List ℕ) → AreForgotten before rounds forgot → IsIssued image forgot number bytes → IsIssued image rounds number bytes }
     ensures kept { (image : List ℕ → List ℕ) (before : ℕ) (rounds forgot : ℕ → RoundState) (number second k : ℕ) (bytes : List ℕ) → AreForgotten before rounds forgot → before ≤ second →
         IsIssuedAt image (rounds second) number second k bytes → IsIssuedAt image (forgot second) number second k bytes }
+    ensures stays { (image : List ℕ → List ℕ) (before : ℕ) (rounds forgot : ℕ → RoundState) (number second k : ℕ) (bytes : List ℕ) → AreForgotten before rounds forgot →
+        IsIssuedAt image (rounds second) number second k bytes → IsIssuedAt image (forgot second) number second k bytes ⊎ IsGone before second (rounds second) (forgot second) }
+    ensures gone { (before : ℕ) (rounds forgot : ℕ → RoundState) (number second k : ℕ) (item : Item) → AreForgotten before rounds forgot → AreApart (λ t. items_in (rounds t)) →
+        IsGone before second (rounds second) (forgot second) → slice_get (items_in (rounds second)) k ≡ Some (from_request number item) → NotIssued forgot number }
 {}

@@ -12,8 +12,8 @@ use crate::heads::HEADER;
 use crate::laws::facts_left_are_lawful;
 use crate::putting::put_all;
 use ksi_disk::laws::records_are_read_again;
-use ksi_disk::{Disk, DiskFailed, ReadRefusal, read_log};
-use ksi_imprint::{Bytes, NoMemory};
+use ksi_disk::{Disk, DiskFailed, ReadRefusal, Records, read_log};
+use ksi_imprint::NoMemory;
 use ksi_schedule::Plan;
 use std::alloc::Global;
 
@@ -67,7 +67,7 @@ fn text_left(
     plan: &Plan,
     before: u64,
     header: &[u8],
-    records: &[Bytes],
+    records: &Records,
 ) -> Result<Left, NoMemory>
     requires header { length header.now ≡ 20 }
     ensures { IfOk result (λ left. (facts : List Fact) (file : List ℕ) → IsFileOf me plan.now facts file → header.now ≡ take 20 file → records.now ≡ records_in file → LeavesText me plan.now before file left) }
@@ -102,7 +102,7 @@ fn close(text: &mut Vec<u8>) -> Result<(), NoMemory>
     Ok(())
 }
 
-fn count_of(records: &[Bytes]) -> u64
+fn count_of(records: &Records) -> u64
     ensures { result ≡ length records.now }
 {
     records.len() as u64

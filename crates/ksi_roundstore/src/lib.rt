@@ -1,17 +1,17 @@
-//! An aggregator whose facts are on a disk, so that a crash at any moment is a restart; and what is left of its file when
-//! it forgets rounds that have a response.
+//! An aggregator with its facts on a disk: after a crash at any moment, reopening the file gives the aggregator as after a
+//! restart. And the compaction of its file, which forgets rounds that have a response.
 //!
-//! A fact is spelled as the lines of the events that make it, as the content of one record of `ksi_disk`, behind a header
-//! that says whose file it is. [`format`] makes an empty file, [`RoundStore::open`] a store of the facts in one, and
-//! [`RoundStore::take`] takes an event of the aggregator: the record of its fact first, then the aggregator's step, then the
-//! record is appended, and only then the step is handed out. So want of memory leaves all as it was. After a failure of the
-//! disk the store is spent: its file is to be opened again. Items of a round that is not closed are in no file: a crash
-//! forgets them, as a restart does.
+//! Each fact is encoded as the lines of its events, as the content of one record of `ksi_disk`, after a header that identifies
+//! the aggregator and its plan. [`format`] creates an empty file, and [`RoundStore::open`] a store of the facts in one.
+//! [`RoundStore::take`] takes an event of the aggregator: it makes the record of the fact, then the aggregator's step, appends
+//! the record, and only then returns the step. So `NoMemory` leaves everything unchanged. After a failure of the disk the store
+//! is spent: its file must be opened again. The items of a round that is not closed are in no file: a crash forgets them, as a
+//! restart does.
 //!
-//! Of a forgotten round it is left that it was closed, as if it had no items. The layers above may rely on this: the facts
-//! left are lawful, and an aggregator of them answers, stores and sends word for word what it would have, whatever comes. It
-//! issues no signature of a forgotten round any more, and each other one as before. [`forget`] makes the file of what is
-//! left, on a new disk, and writes nothing to the old one.
+//! Of a forgotten round the file keeps that it was closed, as if it had no items. The layers above may rely on this: the facts
+//! left are valid, and an aggregator rebuilt from them answers, stores and sends exactly what the original would have, for any
+//! events. It no longer issues signatures of forgotten rounds, and issues all others as before. [`forget`] writes the compacted
+//! file to a new disk, and writes nothing to the old one.
 //!
 //! ```text
 //! format(0, &plan, &mut disk)?;

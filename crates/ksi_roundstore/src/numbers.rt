@@ -1,4 +1,4 @@
-// Numbers in front of bytes, most significant byte first.
+// Numbers at the start of bytes, most significant byte first.
 ghost use Rattle.std.specs.Int.{w32, w64, from_be_bytes, to_be_bytes};
 ghost use Rattle.std.specs.Prelude.{◌≡◌, ◌≤◌, length, take};
 

@@ -41,7 +41,7 @@ pub(crate) fn read_file<C: Compress, D: Disk>(
     read_settled(alloc, me, plan, disk, len)
 }
 
-/// The same of a disk of so many bytes, all of them there for good.
+/// The same of a disk of this many bytes, all of them there for good.
 fn read_settled<C: Compress, D: Disk>(
     alloc: Global,
     me: u32,
@@ -63,7 +63,7 @@ fn read_settled<C: Compress, D: Disk>(
     find(alloc, me, plan, read)
 }
 
-/// What was read of a file of so many bytes.
+/// What was read of a file of this many bytes.
 fn find<C: Compress>(
     alloc: Global,
     me: u32,
@@ -71,9 +71,9 @@ fn find<C: Compress>(
     read: LogRead,
 ) -> Result<Found<C>, OpenRefusal>
     requires member { me < length plan.now.parents }
-    requires end { 20 + length (records_text read.records.items) ≡ place_of read.ending }
+    requires end { 20 + length (records_text read.records) ≡ place_of read.ending }
     ensures found { (file : List ℕ) → header_at (take 20 file) ≡ Some (record { aggregator = me; start = plan.now.start }) → length file < 2 ^ 64 →
-        read.records.items ≡ (reading_of 20 file).records → read.ending ≡ (reading_of 20 file).ending → FindsAs me plan.now file result }
+        read.records ≡ (reading_of 20 file).records → read.ending ≡ (reading_of 20 file).ending → FindsAs me plan.now file result }
     ensures calm { (faults : ℕ) → CountsReads faults faults result }
     ensures sure { IsErrOf result Failed → ⊥ }
 {

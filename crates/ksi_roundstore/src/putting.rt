@@ -10,7 +10,8 @@ use crate::kind::Kind;
 use crate::kinds::kind_of;
 use crate::last_line::last_line;
 use crate::stays::Stays;
-use ksi_imprint::{Bytes, NoMemory};
+use ksi_disk::Records;
+use ksi_imprint::NoMemory;
 use ksi_schedule::Plan;
 use std::alloc::Global;
 use std::collections::BTreeSet;
@@ -24,22 +25,14 @@ pub(crate) fn put_all(
     me: u32,
     before: u64,
     answered: &BTreeSet<u64>,
-    records: &[Bytes],
+    records: &Records,
     text: &mut Vec<u8>,
 ) -> Result<u64, NoMemory>
     ensures { IfOk result (IsPutAll plan.now me (λ t. nat_lt t before && contains nat_cmp answered.now t) records.now (length records.now) text.old.items text.new.items) }
 {
     let mut count = 0;
     'putting: for k in 0..records.len() {
-        let more = put_left(
-            alloc,
-            plan,
-            me,
-            before,
-            answered,
-            records[k].as_slice(),
-            text,
-        )?;
+        let more = put_left(alloc, plan, me, before, answered, records.get(k), text)?;
         count += more;
     }
     Ok(count)

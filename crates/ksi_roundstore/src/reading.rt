@@ -4,7 +4,7 @@ ghost use Rattle.ksi_roundstore.specs.Headers.{header_at};
 use crate::heads::{HEADER, Header, MAGIC};
 use crate::numbers::{number4, number8};
 
-/// The header in front of bytes; none where the magic or 20 bytes are not there.
+/// The header at the start of bytes; none where the magic or 20 bytes are not there.
 pub fn header(bytes: &[u8]) -> Option<Header>
     ensures { result ≡ header_at bytes.now }
 {

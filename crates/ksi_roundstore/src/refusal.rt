@@ -12,7 +12,7 @@ pub enum OpenRefusal {
     Foreign(u32, u64),
     /// The file is broken: the place of the gate of a record that is no lawful fact's or is cut off, or where a gate is missing.
     Malformed(u64),
-    /// Memory was wanting.
+    /// Memory ran out.
     NoMemory,
 }
 
@@ -23,7 +23,7 @@ pub enum TakeRefusal {
     Failed,
     /// The disk failed at an earlier event: its file is to be opened again.
     Spent,
-    /// Memory was wanting.
+    /// Memory ran out.
     NoMemory,
 }
 

@@ -12,7 +12,7 @@ number_of word =
 
 -- ---- in the code
 
--- the number that digits write behind those of n, while it stays below 2^64
+-- the number that digits make after those of n, while it stays below 2^64
 abbrev pub digits_after : ℕ → List ℕ → Option ℕ
 digits_after n [] = Some n
 digits_after n (c ∷ cs) = if is_ascii_digit c && nat_lt (10 * n + (c - 48)) (2 ^ 64) then digits_after (10 * n + (c - 48)) cs else None

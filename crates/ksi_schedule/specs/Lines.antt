@@ -47,12 +47,12 @@ number_in name low high line = or_fault Header (within low high (number_behind n
 abbrev pub bare : (cores start : ℕ) → History
 bare n start = record { plan = record { cores = n; start = start; voters = []; parents = [] }; events = [] }
 
--- ---- the lines behind them
+-- ---- the lines after them
 
 abbrev pub with_parent : PlanState → Parent → PlanState
 with_parent plan parent = record { cores = plan.cores; start = plan.start; voters = plan.voters; parents = plan.parents ++ parent ∷ [] }
 
--- whether a core is reached from the actor in so many steps up, or fewer
+-- whether a core is reached from the actor in this many steps up, or fewer
 unfoldable pub reaches_core : PlanState → (steps : ℕ) → Actor → Bool
 reaches_core plan steps (actors.Core j) = nat_lt j plan.cores
 reaches_core plan zero (actors.Aggregator k) = false

@@ -24,7 +24,7 @@ abbrev pub cores_at : PlanState → List Text → Result (List ℕ) LineFault
 cores_at plan [] = Ok []
 cores_at plan (word ∷ words) = value_at plan core_actor word >>= λ j. cores_at plan words >>= λ js. Ok (j ∷ js)
 
--- what the words behind the first stand for: a second and cores; or the first fault from the left
+-- the meaning of the words after the first: a second and cores; or the first fault from the left
 unfoldable pub members_at : PlanState → List Text → Result VotersFrom LineFault
 members_at plan [] = Err Word
 members_at plan (word ∷ words) =
@@ -32,7 +32,7 @@ members_at plan (word ∷ words) =
     then (value_at plan second word >>= λ t. cores_at plan words >>= λ js. Ok (record { second = t; voters = js }))
     else Err Word
 
--- whether each is below all those behind it
+-- whether each is below all those after it
 abbrev pub rises : List ℕ → Bool
 rises [] = true
 rises (x ∷ xs) = list_all (λ y. nat_lt x y) xs && rises xs
@@ -67,7 +67,7 @@ taken_members h words = members_at h.plan words >>= next_members h
 abbrev pub if_rising : List ℕ → Option (List ℕ)
 if_rising cores = if rises cores then Some cores else None
 
--- what such a line stands for, where its cores rise
+-- the meaning of such a line, if its cores rise
 abbrev pub rising_at : PlanState → List Text → Result (ℕ × Option (List ℕ)) LineFault
 rising_at plan words = members_at plan words >>= λ pair. Ok (pair.second, if_rising pair.voters)
 

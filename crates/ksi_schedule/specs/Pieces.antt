@@ -11,6 +11,6 @@ abbrev pub lines : Text → List Text
 lines [] = []
 lines (b ∷ text) = if b == 10 then [] ∷ lines text else onto_first b (lines text)
 
--- The words stand between the spaces: one more than there are spaces, and some may be empty.
+-- The words are between the spaces: one more than there are spaces, and some may be empty.
 abbrev pub words : Text → List Text
 words line = slice_split (λ b. b == 32) line

@@ -37,7 +37,7 @@ abbrev pub IsParent : (cores k : ℕ) → Actor → Type 0
 IsParent cores k (actors.Core j) = j < cores
 IsParent cores k (actors.Aggregator i) = i < k
 
--- from the actor a core is reached in so many steps up, or fewer
+-- from the actor a core is reached in this many steps up, or fewer
 unfoldable pub ReachesCore : PlanState → (steps : ℕ) → Actor → Type 0
 ReachesCore plan steps (actors.Core j) = j < plan.cores
 ReachesCore plan zero (actors.Aggregator k) = ⊥

@@ -100,7 +100,7 @@ abbrev pub line_of : List Text → Text
 line_of [] = []
 line_of (word ∷ words) = word ++ spaced words
 
--- a line feed behind each line
+-- a line feed after each line
 abbrev pub text_of_lines : List (List Text) → Text
 text_of_lines [] = []
 text_of_lines (line ∷ others) = line_of line ++ 10 ∷ text_of_lines others

@@ -24,7 +24,7 @@ abbrev pub behind : (Said → Result History Fault) → ℕ → Result Said Line
 behind others n (Ok said) = others said
 behind others n (Err fault) = Err (fault, n)
 
--- the lines from number n on, behind what is said before them
+-- the lines from number n on, given the meaning of those before them
 unfoldable pub read_from : (n : ℕ) → List Text → Said → Result History Fault
 read_from n [] said = ended n said
 read_from n (line ∷ others) said = behind (read_from (n + 1) others) n (with_line said line)
@@ -34,13 +34,13 @@ schedule_at text = read_from 1 (lines text) nothing
 
 -- ---- in the code
 
--- what was read, but for want of memory
+-- the result of reading, unless memory ran out
 abbrev pub Reads : Result History Fault → Result History (Refused ScheduleFault) → Type 0
 Reads expected (Ok h) = expected ≡ Ok h
 Reads expected (Err (refused.Fault (faults.Line fault n))) = expected ≡ Err (fault, n)
 Reads expected (Err refused.NoMemory) = Unit {0}
 
--- what a line came to, but for want of memory
+-- the result of a line, unless memory ran out
 abbrev pub Goes : Result History LineFault → History → Result (Unit {0}) (Refused LineFault) → Type 0
 Goes expected new (Ok u) = expected ≡ Ok new
 Goes expected new (Err (refused.Fault fault)) = expected ≡ Err fault
@@ -58,7 +58,7 @@ abbrev pub words_left : Option (Bor Text) → List Text
 words_left None = []
 words_left (Some rest) = words rest.now
 
--- what stands before the first mark, and what follows it
+-- the part before the first mark, and the part after it
 pub record IsCut (mark : ℕ) (bytes : Text) (r : Bor Text × Option (Bor Text)) : Type 0 where
   pub words : mark ≡ 32 → words bytes ≡ r.0.now ∷ words_left r.1
   pub lines : mark ≡ 10 → 0 < length bytes → lines bytes ≡ r.0.now ∷ lines_left r.1

@@ -35,7 +35,7 @@ abbrev pub IsPlanned : Said → Type 0
 IsPlanned (history version h) = Unit {0}
 IsPlanned _ = ⊥
 
--- the text has fewer than three lines, and the fault stands on the line after the last
+-- the text has fewer than three lines, and the fault is on the line after the last
 pub record IsCutShort (text : Text) (fault : LineFault) (n : ℕ) : Type 0 where
   pub said : Said
   pub says : Says nothing (lines text) said
@@ -46,7 +46,8 @@ pub record IsCutShort (text : Text) (fault : LineFault) (n : ℕ) : Type 0 where
 abbrev pub IsScheduleFault : Text → LineFault → ℕ → Type 0
 IsScheduleFault text fault n = IsFaultyLine text fault n ⊎ IsCutShort text fault n
 
--- behind what is said, memory was wanting for an aggregator or an event, whose line has no fault, and no line before it has
+-- after the lines so far, memory ran out for an aggregator or an event, whose line has no fault, and no line before it
+-- has one
 pub record IsWantingFrom (said : Said) (ls : List Text) : Type 0 where
   pub before : List Text
   pub line : Text

@@ -1,4 +1,4 @@
--- The sorts of words that stand in a line, what a word of each stands for, and the forms of lines.
+-- The sorts of words of a line, the meaning of a word of each, and the forms of lines.
 use Rattle.std.specs.Prelude.{ℕ, ◌+◌, ◌^◌, List, [], ◌∷◌, length, Bool, true, false, ◌&&◌, ◌==◌, nat_lt, nat_le, Option, Some, None, Result, Ok, Err, if◌then◌else◌}
 use Rattle.std.specs.Str.{bytes_eq}
 use Rattle.ksi_imprint.specs.Reading.{hex_at}
@@ -77,7 +77,7 @@ abbrev pub begins_with : ℕ → Text → Bool
 begins_with letter [] = false
 begins_with letter (b ∷ word) = b == letter
 
--- what belongs to the form of a line: the words that stand in it, and the letter before an actor's number
+-- the parts that belong to the form of a line: its fixed words, and the letter before an actor's number
 abbrev pub looks_like : Sort → Text → Bool
 looks_like (the_word text) word = bytes_eq word text
 looks_like core_actor word = begins_with 99 word
@@ -119,7 +119,7 @@ values_at plan [] words = Ok tt
 values_at plan (sort ∷ sorts) [] = Err Word
 values_at plan (sort ∷ sorts) (word ∷ words) = value_at plan sort word >>= λ v. values_at plan sorts words >>= λ vs. Ok (v, vs)
 
--- the words behind a line's first, and what they make
+-- the words after a line's first, and their meaning
 pub record Form (A : Type 0) : Type 0 where
   pub sorts : List Sort
   pub makes : Values sorts → A

@@ -13,7 +13,7 @@ use crate::plan::Plan;
 use ksi_imprint::NoMemory;
 use ksi_synod::Voters;
 
-// Whether a core is reached from the actor in so many steps up, or fewer.
+// Whether a core is reached from the actor in this many steps up, or fewer.
 pub(crate) fn reaches_core(plan: &Plan, steps: usize, actor: Actor) -> bool
     ensures { result ≡ reaches_core plan.now steps actor }
 {

@@ -33,8 +33,8 @@ pub fn spelled_is_schedule()
     voters_are_cores();
 }
 
-/// The lines of a schedule stand in one order: the version, how many cores there are and the start; then a line for each
-/// change of voters, one for each aggregator, and one for each event. Each line's first word is that of what it says.
+/// The lines of a schedule have one order: the version, the number of cores and the start; then a line for each change of
+/// voters, one for each aggregator, and one for each event. Each line begins with the word of its kind.
 pub fn spelled_is_laid_out()
     ensures { (text : List ℕ) (h : History) → IsScheduleText text h → IsLaidOut text h }
 {}

@@ -1,13 +1,13 @@
-//! Schedules: a plan of cores, their voters and aggregators, and the events that are to happen, as values and as texts. An
-//! aggregator may submit, and a request may be made, under a name.
+//! Schedules: a plan of cores, their voters and aggregators, and the events of a run, as values and as texts. Requests and
+//! the submissions of an aggregator may have a name.
 //!
-//! A contract sees a [`Schedule`] as its plan and its list of events, and its type keeps the limits: at most a million
-//! events, each with an actor and a second of the plan. The layers above may rely on this: [`read_schedule`] gives exactly
-//! the schedule that the lines of a text say, or the first line that is not as it must be, with its fault; what [`print`]
-//! gives is a text that says the schedule again. Every text says one schedule or has one first fault, and not both, and
-//! what it says is within the limits, by the laws [`laws::schedule_or_fault`] and [`laws::spelled_is_schedule`]. Reading goes over the
-//! text once and keeps nothing but the schedule's own lists. [`read_number`] reads a number of decimal digits, in a
-//! schedule and in a command's words alike.
+//! In contracts a [`Schedule`] is its plan and its list of events. Its type ensures the limits: at most a million events,
+//! each with an actor and a second of the plan. The layers above may rely on this. [`read_schedule`] returns exactly the
+//! schedule that the lines of a text encode, or the first invalid line with its fault. [`print`] returns a text that
+//! encodes the schedule. Every text either encodes one schedule or has one first fault, and what it encodes is within the
+//! limits, by the laws [`laws::schedule_or_fault`] and [`laws::spelled_is_schedule`]. Reading passes over the text once and
+//! keeps only the schedule's own lists. [`read_number`] reads a number of decimal digits, in a schedule and in a command's
+//! words alike.
 //!
 //! ```text
 //! match read_schedule(alloc, b"ksi-schedule 1\ncores 3\nstart 1700000000\nseal 0 1700000000\n") {

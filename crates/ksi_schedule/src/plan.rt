@@ -56,11 +56,10 @@ impl Parents {
     }
 }
 
-/// How many cores there are, the first second and who votes on which second, and whom each aggregator submits to, under
-/// which name.
+/// The number of cores, the first second, the voters of each second, and for each aggregator its parent and its name.
 ///
 /// There are at most 4,096 aggregators. The parent of an aggregator is a core of the plan or an aggregator with a smaller
-/// number, and at most eight aggregators stand above one another.
+/// number, and at most eight aggregators are above one another.
 #[derive(Drop)]
 pub struct Plan {
     pub core_plan: CorePlan,

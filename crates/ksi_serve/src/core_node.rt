@@ -2,9 +2,9 @@ ghost use Rattle.std.specs.Prelude.{◌<◌};
 
 use ksi_disk::HostDisk;
 use ksi_imprint::Sha;
+use ksi_node::{Failure, HostOutlet, formatted_disk, serve_core};
 use ksi_nodestore::{NodeStore, OpenRefusal, format};
 use ksi_schedule::Plan;
-use ksi_service::{Failure, HostOutlet, formatted_disk, serve_core};
 use std::io::BufReader;
 
 /// Serves the core of this number, if the plan has it.

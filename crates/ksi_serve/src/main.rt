@@ -1,12 +1,13 @@
-//! `ksi_serve PLAN NODE FOLDER NAME`: the node that NODE names, as `c0` or `a1`, of the plan that the schedule file PLAN begins
-//! with. Its facts are in the file NAME of FOLDER, which is made if it is missing. It takes lines from standard input, and says
-//! a block for each on standard output. The status is 0 at the end of the input, and 1 at a fault, which the last line names:
-//! `failed WORD`.
+//! `ksi_serve PLAN NODE FOLDER NAME`: the node that NODE names, as `c0` or `a1`, of the plan at the start of the schedule
+//! file PLAN. Its facts are in the file NAME of FOLDER, which is made if it is missing. It reads lines from standard input
+//! and writes a block for each to standard output. The status is 0 at the end of the input, and 1 at a fault, which the
+//! last line names: `failed WORD`.
 //!
-//! `ksi_serve --forget PLAN NODE FOLDER NAME BEFORE FRESH`: writes the file FRESH of FOLDER, which is empty or missing: what is
-//! left of the file NAME of an aggregator, when each round of a second before BEFORE is forgotten that has a response. The node
-//! does not run meanwhile; then FRESH is renamed to NAME. The last line is `left N of M`, the records of FRESH and of NAME, and
-//! the status 0; at a fault it is `failed WORD`, and the status 1.
+//! `ksi_serve --forget PLAN NODE FOLDER NAME BEFORE FRESH`: writes the compacted file of a node to FRESH of FOLDER, which
+//! is empty or missing. NAME is the node's file. A core forgets each second before BEFORE, up to the first for which it
+//! holds no root. An aggregator forgets each round of a second before BEFORE that has a response. The node must not run
+//! meanwhile; afterwards FRESH is renamed to NAME. The last line is `left N of M`, the numbers of records of FRESH and of
+//! NAME, and the status 0. At a fault it is `failed WORD`, and the status 1.
 #![tactic(auto)]
 
 mod core_node;
@@ -14,15 +15,18 @@ mod forgetting;
 mod node;
 mod round_node;
 
+use forgetting::{Names, forget_aggregator, forget_core};
+use ksi_node::{Failure, end, plan_of};
+use ksi_ports::{HostFiles, HostSink};
 use ksi_schedule::read_number;
-use ksi_service::{Failure, end, plan_of};
 use node::{Node, node_of};
 use std::env;
 use std::process::ExitCode;
 
 fn main(rt: HostRuntime) -> ExitCode {
     let outcome = run(&rt);
-    end(&rt, outcome)
+    let mut out = HostSink::new(rt.stdout());
+    end(&mut out, outcome)
 }
 
 fn run(rt: &HostRuntime) -> Result<(), Failure> {
@@ -55,7 +59,7 @@ fn serve(
     folder: &String,
     name: &String,
 ) -> Result<(), Failure> {
-    let plan = plan_of(rt, plan.as_str())?;
+    let plan = plan_of(rt.alloc(), &mut HostFiles::new(rt), plan.as_str())?;
     match node_of(node.as_str().as_bytes()) {
         Some(Node::Core(number)) => {
             core_node::serve_number(rt, &plan, number, folder.as_str(), name.as_str())
@@ -67,7 +71,7 @@ fn serve(
     }
 }
 
-/// Lets an aggregator forget, by the words behind its own: the folder, the name, the first second that is kept, the new name.
+/// Lets a node forget, by the words after the node: the folder, the name, the first second that is kept, and the new name.
 fn forget(rt: &HostRuntime, plan: &String, node: &String, files: &[String]) -> Result<(), Failure> {
     let [folder, name, before, fresh] = files else {
         return Err(Failure::Words);
@@ -75,19 +79,15 @@ fn forget(rt: &HostRuntime, plan: &String, node: &String, files: &[String]) -> R
     let Some(before) = read_number(before.as_str().as_bytes()) else {
         return Err(Failure::Words);
     };
-    let plan = plan_of(rt, plan.as_str())?;
+    let plan = plan_of(rt.alloc(), &mut HostFiles::new(rt), plan.as_str())?;
+    let names = Names {
+        folder: folder.as_str(),
+        name: name.as_str(),
+        fresh: fresh.as_str(),
+    };
     match node_of(node.as_str().as_bytes()) {
-        Some(Node::Aggregator(number)) => forgetting::forget_number(
-            rt,
-            &plan,
-            number,
-            before,
-            &forgetting::Names {
-                folder: folder.as_str(),
-                name: name.as_str(),
-                fresh: fresh.as_str(),
-            },
-        ),
-        _ => Err(Failure::Node),
+        Some(Node::Core(number)) => forget_core(rt, &plan, number, before, &names),
+        Some(Node::Aggregator(number)) => forget_aggregator(rt, &plan, number, before, &names),
+        None => Err(Failure::Node),
     }
 }

@@ -2,9 +2,9 @@ ghost use Rattle.std.specs.Prelude.{◌<◌, length};
 
 use ksi_disk::HostDisk;
 use ksi_imprint::Sha;
+use ksi_node::{Failure, HostOutlet, formatted_disk, serve_aggregator};
 use ksi_roundstore::{OpenRefusal, RoundStore, format};
 use ksi_schedule::Plan;
-use ksi_service::{Failure, HostOutlet, formatted_disk, serve_aggregator};
 use std::io::BufReader;
 
 /// Serves the aggregator of this number, if the plan has it.

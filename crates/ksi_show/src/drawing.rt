@@ -23,7 +23,7 @@ const RIGHT: u64 = 466;
 /// From the beginning of a box to its middle.
 const HALF: u64 = 68;
 
-/// Where the next row stands, and the boxes below that lead to it: that on the way, and that beside it.
+/// The place of the next row, and the boxes below that lead to it: that on the way, and that beside it.
 #[derive(Clone, Copy)]
 pub(crate) struct Above {
     pub(crate) up: u64,
@@ -171,12 +171,12 @@ fn field_height(rows: usize) -> u64 {
     ROW.saturating_mul(rows as u64).saturating_add(52)
 }
 
-/// How much a field of so many rows takes.
+/// The height of a field of this many rows.
 pub(crate) fn space(rows: usize) -> u64 {
     field_height(rows).saturating_add(GAP)
 }
 
-/// The field behind the rows of a chain, with its heading and the date of its second; and where its first row stands.
+/// The field behind the rows of a chain, with its heading and the date of its second; and where its first row is.
 pub(crate) fn draw_field(
     text: &mut Vec<u8>,
     at: Above,
@@ -206,7 +206,7 @@ pub(crate) fn draw_field(
     })
 }
 
-/// Where the next field stands, behind that of so many rows.
+/// The place of the next field, behind that of this many rows.
 pub(crate) fn behind_field(at: Above, end: Above, rows: usize) -> Above {
     Above {
         up: at.up.saturating_add(space(rows)),

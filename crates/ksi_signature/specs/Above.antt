@@ -1,4 +1,4 @@
--- What a response carries of the chains above.
+-- The parts of the chains above in a response.
 use Rattle.std.specs.Prelude.{◌≡◌, ◌≤◌, ◌⊎◌, List, length, take, drop}
 use Rattle.std.specs.List.{AllByRecursion}
 use Rattle.ksi_split.specs.declared.side.Side.TheVariants.{Left}
@@ -6,7 +6,7 @@ use Rattle.ksi_aggtree.specs.declared.chains.link.Link.{Link}
 use Rattle.ksi_aggtree.specs.declared.chains.link.Sibling.{Sibling}
 use Rattle.ksi_aggtree.specs.declared.chains.link.Sibling.TheVariants as siblings
 
--- an imprint, and no raw bytes
+-- an imprint, not raw bytes
 abbrev pub IsNode : Sibling → Type 0
 IsNode (siblings.Imprint imprint) = Unit {0}
 IsNode (siblings.Legacy bytes) = ⊥
@@ -24,7 +24,7 @@ pub record IsNameLink (link : Link) : Type 0 where
   pub correction : link.correction ≡ 0
   pub sibling : IsShortMetadata link.sibling
 
--- links of a round's tree, the lowest first: they stand beside imprints, but the lowest may lead up from an item with a name
+-- links of a round's tree, the lowest first: their siblings are imprints, but the lowest may lead up from an item with a name
 pub record AreRoundLinks (links : List Link) : Type 0 where
   pub count : length links ≤ 17
   pub lowest : AllByRecursion (λ link. IsNode link.sibling ⊎ IsNameLink link) (take 1 links)

@@ -1,4 +1,4 @@
--- What a walk over the references or the repositories of a record still gives.
+-- The references or repositories of a record that a walk has not yet returned.
 use Rattle.std.specs.Prelude.{ℕ, List}
 use Rattle.ksi_tlv.specs.Views.{rest}
 use Rattle.ksi_tlv.specs.Inside.{whole}

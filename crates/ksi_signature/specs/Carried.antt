@@ -1,4 +1,4 @@
--- What the types of a response's parts keep.
+-- The invariants of the types of a response's parts.
 use Rattle.std.specs.Prelude.{◌<◌, ◌≤◌, ◌^◌, ℕ, List, length}
 use Rattle.std.specs.List.{AllByRecursion}
 use Rattle.ksi_imprint.specs.Imprints.{IsImprint}
@@ -24,7 +24,7 @@ pub record IsAbove (above : Above) : Type 0 where
   pub few : length above.calendar ≤ 63
   pub calendar : AllByRecursion (λ link. IsImprint link.sibling) above.calendar
 
--- a signature may be issued of these: its second, the item's imprint and links, and what stands above
+-- a signature may be issued from these: its second, the item's imprint and links, and the chains above
 pub record MayBeIssued (second : ℕ) (input : List ℕ) (links : List Link) (above : Above) : Type 0 where
   pub early : second < 2 ^ 63
   pub imprint : IsImprint input
@@ -48,7 +48,7 @@ ChainOfBytes chain = AreBytes chain.input × LinksOfBytes chain.links
 abbrev pub CalendarOfBytes : List (TreeLink (List ℕ)) → Type 0
 CalendarOfBytes links = AllByRecursion (λ link. AreBytes link.sibling) links
 
--- all that a signature is issued of are bytes: the item's imprint, the siblings beside its links, and what stands above
+-- all parts that a signature is issued from are bytes: the item's imprint, its links' siblings, and the chains above
 pub record IsOfBytes (input : List ℕ) (links : List Link) (above : Above) : Type 0 where
   pub imprint : AreBytes input
   pub own : LinksOfBytes links

@@ -1,4 +1,4 @@
--- What the elements of a signature say.
+-- The values of the elements of a signature.
 use Rattle.std.specs.Prelude.{ℕ, ◌==◌, ◌||◌, nat_lt, length, map, option_map, List, [], ◌∷◌, Option, Some, None, if◌then◌else◌}
 use Rattle.ksi_imprint.specs.Imprints.{zero_imprint}
 use Rattle.ksi_split.specs.declared.side.Side.{Side}
@@ -13,19 +13,20 @@ use Rattle.ksi_tlv.specs.Inside.{inner_elements, first_of}
 use Rattle.ksi_tlv.specs.Published.{number_or_zero, imprint_or_zero, recorded_in}
 use Rattle.ksi_signature.specs.Values.{Aggregation, Calendar, Publishing}
 use Rattle.ksi_signature.specs.declared.signature.Signature.{Signature}
+use Rattle.ksi_signature.specs.Kinds.{chain_kind, calendar_kind, publication_kind}
 
 -- the bodies of the elements of a kind, in order
 abbrev pub bodies_of : ℕ → List PlacedTlv → List (List ℕ)
 bodies_of kind [] = []
 bodies_of kind (at ∷ es) = if at.element.kind == kind then at.element.body ∷ bodies_of kind es else bodies_of kind es
 
--- the node stands on the side that the link is called after
+-- a link is named after the side of the node below it
 abbrev pub side_in : PlacedTlv → Side
 side_in at = if at.element.kind == 7 then Left else Right
 
 -- ---- aggregation chains
 
--- that of the first element which is one
+-- the first sibling among elements
 abbrev pub sibling_among : List PlacedTlv → Sibling
 sibling_among [] = siblings.Imprint zero_imprint
 sibling_among (at ∷ es) =
@@ -79,25 +80,25 @@ publishing_in at = record {
   time = (recorded_in at).0;
   hash = (recorded_in at).1;
   references = bodies_of 9 (inner_elements at);
-  repositories = bodies_of 10 (inner_elements at);
+  repositories = bodies_of 0x0a (inner_elements at);
 }
 
 -- ---- signatures
 
--- a chain behind all that have as many index parts or more
+-- inserts a chain after all that have as many index parts or more
 abbrev pub put_chain : Aggregation → List Aggregation → List Aggregation
 put_chain chain [] = chain ∷ []
 put_chain chain (other ∷ chains) =
     if nat_lt (length other.index) (length chain.index) then chain ∷ other ∷ chains else other ∷ put_chain chain chains
 
--- elements' chains by falling number of index parts behind others, equal numbers in the order of the elements
+-- inserts the elements' chains, by falling number of index parts, equal numbers in the order of the elements
 abbrev pub chains_behind : List Aggregation → List PlacedTlv → List Aggregation
 chains_behind chains [] = chains
-chains_behind chains (at ∷ es) = if at.element.kind == 2049 then chains_behind (put_chain (chain_in at) chains) es else chains_behind chains es
+chains_behind chains (at ∷ es) = if at.element.kind == chain_kind then chains_behind (put_chain (chain_in at) chains) es else chains_behind chains es
 
 unfoldable pub signature_of : List PlacedTlv → Signature
 signature_of es = record {
   chains = chains_behind [] es;
-  calendar = option_map calendar_in (first_of 2050 es);
-  publication = option_map publishing_in (first_of 2051 es);
+  calendar = option_map calendar_in (first_of calendar_kind es);
+  publication = option_map publishing_in (first_of publication_kind es);
 }

@@ -9,10 +9,11 @@ use Rattle.ksi_signature.specs.declared.signature.Signature.{Signature}
 use Rattle.ksi_signature.specs.Tables.{signature_table}
 use Rattle.ksi_signature.specs.Reading.{elements_in}
 use Rattle.ksi_signature.specs.Written.{calendar_element, publishing_element}
+use Rattle.ksi_signature.specs.Kinds.{signature_kind, chain_kind}
 
 -- An element is retained: it is an aggregation chain, or is unknown and has both flags.
 abbrev pub is_retained : Tlv → Bool
-is_retained e = e.kind == 2049 || (not (is_known signature_table.slots e.kind) && (e.non_critical && e.forward))
+is_retained e = e.kind == chain_kind || (not (is_known signature_table.slots e.kind) && (e.non_critical && e.forward))
 
 -- the bytes of an element in the file: from its place to the end of its body
 abbrev pub text_in : List ℕ → PlacedTlv → List ℕ
@@ -23,7 +24,7 @@ abbrev pub retained_texts : List ℕ → List PlacedTlv → List ℕ
 retained_texts bytes [] = []
 retained_texts bytes (at ∷ es) = if is_retained at.element then text_in bytes at ++ retained_texts bytes es else retained_texts bytes es
 
--- the texts of what is retained of elements, and behind them the calendar chain and the publication record as they are written
+-- the texts of the retained elements, then the calendar chain and the publication record as they are written
 abbrev pub content_with : List ℕ → List PlacedTlv → Calendar → Publishing → List ℕ
 content_with bytes es chain published =
     retained_texts bytes es ++ texts (calendar_element chain ∷ publishing_element published ∷ [])
@@ -32,13 +33,13 @@ unfoldable pub extended_content : List ℕ → Calendar → Publishing → List 
 extended_content bytes chain published = content_with bytes (elements_in bytes) chain published
 
 unfoldable pub extended_text : List ℕ → Calendar → Publishing → List ℕ
-extended_text bytes chain published = canonical (plain 2048 (extended_content bytes chain published))
+extended_text bytes chain published = canonical (plain signature_kind (extended_content bytes chain published))
 
--- the signature with these in place of what it had of both
+-- the signature with this calendar chain and publication record in place of its own
 abbrev pub renewed : Signature → Calendar → Publishing → Signature
 renewed signature chain published = record { chains = signature.chains; calendar = Some chain; publication = Some published }
 
--- A content of so many bytes is too long for an element, and this says so: their number, 2^64 - 1 where they are more.
+-- A content of `size` bytes is too long for an element, and n is its size, or 2^64 - 1 if it is more.
 pub record IsTooLong (size n : ℕ) : Type 0 where
   pub long : 65535 < size
   pub number : n ≡ min size (2 ^ 64 - 1)

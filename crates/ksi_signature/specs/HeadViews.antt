@@ -1,4 +1,4 @@
--- What is found in a walk, wherever it lies in memory.
+-- The results of a walk, whether borrowed or owned.
 use Rattle.std.specs.Prelude.{option_map}
 use Rattle.ksi_signature.specs.declared.head.Head.{Head}
 use Rattle.ksi_signature.specs.declared.head.CalendarHead.{CalendarHead}

@@ -1,5 +1,5 @@
--- What chains have beside their links, and what is found of it in one walk over their elements: where a kind stands
--- twice, the last counts.
+-- The fields of chains other than their links, and how one walk over the elements finds them: if a kind occurs twice, the
+-- last one counts.
 use Rattle.std.specs.Prelude.{◌≡◌, ℕ, ◌+◌, ◌-◌, ◌==◌, ◌&&◌, nat_le, Bool, true, List, [], ◌∷◌, length, slice_index, Option, Some, None, if◌then◌else◌}
 use Rattle.ksi_tlv.specs.Walking.{PlacedTlv}
 use Rattle.ksi_tlv.specs.Numerals.{number_of}
@@ -11,8 +11,8 @@ use Rattle.ksi_signature.specs.Values.{Aggregation, Calendar}
 abbrev pub last_part : List ℕ → ℕ
 last_part index = slice_index index (length index - 1)
 
--- a time, how many parts the index has and the last of them, what was hashed where it is told, and the imprint that the
--- links lead from
+-- a time, the number of index parts and the last of them, the input data if present, and the imprint that the links lead
+-- from
 pub record Head : Type 0 where
   pub time : ℕ
   pub parts : ℕ
@@ -38,7 +38,7 @@ head_behind head (at ∷ es) = head_behind (head_with head at) es
 
 -- ---- calendar chains
 
--- the publication time, the aggregation time where it is there, and the imprint that the links lead from
+-- the publication time, the aggregation time if present, and the imprint that the links lead from
 pub record CalendarHead : Type 0 where
   pub publication : ℕ
   pub time : Option ℕ

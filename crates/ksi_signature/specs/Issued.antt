@@ -1,4 +1,4 @@
--- The signature that is issued of an item, by a response.
+-- The signature that is issued for an item, from a response.
 use Rattle.std.specs.Prelude.{ℕ, List, [], ◌∷◌, ◌++◌, map, Some, None}
 use Rattle.ksi_aggtree.specs.declared.chains.link.Link.{Link}
 use Rattle.ksi_aggtree.specs.Shapes.{shape_of}
@@ -10,8 +10,8 @@ use Rattle.ksi_signature.specs.declared.above.Above.{Above}
 abbrev pub shape_along : List Link → ℕ
 shape_along links = shape_of (map (λ link. link.side) links)
 
--- The index of the lowest of chains: their shapes, that of the highest first. So the index of the next higher chain is
--- this one without its last part.
+-- The index of the lowest of chains: their shapes, the shape of the highest first. So the index of the next higher chain
+-- is this one without its last part.
 abbrev pub index_of : List AboveChain → List ℕ
 index_of [] = []
 index_of (chain ∷ above) = index_of above ++ (shape_along chain.links ∷ [])

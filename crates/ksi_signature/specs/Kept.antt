@@ -1,4 +1,4 @@
--- What the types of a signature's parts keep: counts, lengths, times, and that imprints are imprints.
+-- The invariants of the types of a signature's parts: counts, lengths, times, and that imprints are imprints.
 use Rattle.std.specs.Prelude.{◌^◌, ◌<◌, ◌≤◌, length, IfSome}
 use Rattle.std.specs.List.{AllByRecursion}
 use Rattle.ksi_imprint.specs.Imprints.{IsImprint}
@@ -42,7 +42,7 @@ pub record IsLimited (signature : Signature) : Type 0 where
   pub calendar : IfSome signature.calendar IsCalendar
   pub publication : IfSome signature.publication IsPublishing
 
--- what holds of a chain that bytes say
+-- facts about a chain that is read from bytes
 pub record IsLent (chain : Aggregation) : Type 0 where
   pub time : chain.time < 2 ^ 63
   pub some : 0 < length chain.index

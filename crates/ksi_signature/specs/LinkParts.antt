@@ -1,5 +1,5 @@
--- What a link of an aggregation chain is beside its side, and what is found of it in one walk over its elements: where a
--- kind stands twice, the last counts.
+-- The parts of a link of an aggregation chain other than its side, and how one walk over its elements finds them: if a
+-- kind occurs twice, the last one counts.
 use Rattle.std.specs.Prelude.{ℕ, ◌==◌, List, [], ◌∷◌, if◌then◌else◌}
 use Rattle.ksi_aggtree.specs.declared.chains.link.Link.{Link}
 use Rattle.ksi_aggtree.specs.declared.chains.link.Sibling.{Sibling}
@@ -34,7 +34,7 @@ abbrev pub parts_behind : Parts → List PlacedTlv → Parts
 parts_behind parts [] = parts
 parts_behind parts (at ∷ es) = parts_behind (parts_with parts at) es
 
--- wherever they lie in memory
+-- whether borrowed or owned
 abbrev pub view_sibling : SiblingView → Sibling
 view_sibling (lent.Imprint bytes) = siblings.Imprint bytes.now
 view_sibling (lent.Legacy bytes) = siblings.Legacy bytes.now

@@ -1,4 +1,4 @@
--- What a walk over index parts still gives.
+-- The index parts that a walk has not yet returned.
 use Rattle.std.specs.Prelude.{ℕ, List, map}
 use Rattle.ksi_tlv.specs.Views.{rest}
 use Rattle.ksi_tlv.specs.Numerals.{number_of}

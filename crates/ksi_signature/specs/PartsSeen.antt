@@ -1,4 +1,4 @@
--- What the lent parts of a signature show.
+-- The values of the borrowed parts of a signature.
 use Rattle.ksi_tlv.specs.Views.{view_placed}
 use Rattle.ksi_signature.specs.Values.{Aggregation, Calendar, Publishing}
 use Rattle.ksi_signature.specs.Contents.{chain_in, calendar_in, publishing_in}

@@ -1,4 +1,4 @@
--- Where a chain is put among chains.
+-- The place at which a chain is inserted among chains.
 use Rattle.std.specs.Prelude.{ℕ, ◌+◌, nat_lt, length, List, [], ◌∷◌, if◌then◌else◌}
 use Rattle.ksi_signature.specs.Values.{Aggregation}
 

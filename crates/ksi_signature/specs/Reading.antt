@@ -1,4 +1,4 @@
--- The signature that bytes are, or their first fault. The law `signature_is_read` says that these are those of `File`.
+-- The signature that bytes encode, or their first fault. The law `signature_is_read` says that these are the ones in `File`.
 use Rattle.std.specs.Prelude.{ℕ, ◌-◌, List, [], length, Result, Ok, Err}
 use Rattle.ksi_tlv.specs.Spelling.{Tlv}
 use Rattle.ksi_tlv.specs.Front.{element_at}

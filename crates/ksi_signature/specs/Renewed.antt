@@ -1,4 +1,4 @@
--- What a content that is too long is called where a signature is extended.
+-- The refusal if the content of an extended signature is too long.
 use Rattle.ksi_signature.specs.declared.refusal.WriteRefusal.{WriteRefusal}
 use Rattle.ksi_signature.specs.declared.refusal.WriteRefusal.TheVariants as unwritten
 use Rattle.ksi_signature.specs.declared.extension.WithRefusal.{WithRefusal}

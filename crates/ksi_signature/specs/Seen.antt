@@ -1,4 +1,4 @@
--- What a lent signature shows, and the bytes that it is lent from.
+-- The value of a borrowed signature, and the bytes that it borrows.
 use Rattle.std.specs.Prelude.{ℕ, List}
 use Rattle.ksi_tlv.specs.Views.{view_placed}
 use Rattle.ksi_tlv.specs.Inside.{inner_elements}

@@ -7,6 +7,7 @@ use Rattle.ksi_tlv.specs.Table.{Verdict, Slot, Table, exactly_once, at_most_once
 use Rattle.ksi_tlv.specs.Containing.{inner_verdict}
 use Rattle.ksi_tlv.specs.Contents.{passes, number_in, time_in, level_in, algorithm_in, imprint_in, raw_in}
 use Rattle.ksi_tlv.specs.Published.{record_table}
+use Rattle.ksi_signature.specs.Kinds.{chain_kind, calendar_kind, publication_kind, aggregation_authentication_kind, calendar_authentication_kind, rfc3161_kind}
 
 -- ---- a link of an aggregation chain
 
@@ -62,14 +63,18 @@ calendar_table = record { slots = exactly_once 1 ∷ at_most_once 2 ∷ exactly_
 
 -- 1 to 16
 abbrev pub chains : Slot
-chains = record { kinds = 2049 ∷ []; most = Some 16; over = overs.Chains; lack = Some (faults.Missing 2049) }
+chains = record { kinds = chain_kind ∷ []; most = Some 16; over = overs.Chains; lack = Some (faults.Missing chain_kind) }
 
 abbrev pub signature_content : PlacedTlv → Verdict
 signature_content at =
-    if at.element.kind == 2049 then inner_verdict chain_table at
-    else if at.element.kind == 2050 then inner_verdict calendar_table at
+    if at.element.kind == chain_kind then inner_verdict chain_table at
+    else if at.element.kind == calendar_kind then inner_verdict calendar_table at
     else inner_verdict record_table at
 
--- 0x801 aggregation chains, 0x802 calendar chain, 0x803 publication record; 0x804 to 0x806 are refused
+-- aggregation chains, a calendar chain and a publication record; authentication records and RFC 3161 records are refused
 abbrev pub signature_table : Table
-signature_table = record { slots = chains ∷ at_most_once 2050 ∷ at_most_once 2051 ∷ []; refused = 2052 ∷ 2053 ∷ 2054 ∷ []; content = signature_content }
+signature_table = record {
+  slots = chains ∷ at_most_once calendar_kind ∷ at_most_once publication_kind ∷ [];
+  refused = aggregation_authentication_kind ∷ calendar_authentication_kind ∷ rfc3161_kind ∷ [];
+  content = signature_content;
+}

@@ -1,4 +1,4 @@
--- What the parts of a signature are.
+-- The parts of a signature.
 use Rattle.std.specs.Prelude.{ℕ, ◌≤◌, ◌<◌, List, [], ◌∷◌, length, Option}
 use Rattle.std.specs.List.{AllByRecursion}
 use Rattle.ksi_split.specs.declared.tree_link.TreeLink.{TreeLink}
@@ -6,8 +6,8 @@ use Rattle.ksi_aggtree.specs.declared.chains.link.Link.{Link}
 use Rattle.ksi_aggtree.specs.declared.chains.link.Sibling.{Sibling}
 use Rattle.ksi_aggtree.specs.declared.chains.link.Sibling.TheVariants as siblings
 
--- an aggregation chain: its time, its place in the tree of chains, what was hashed where it is told, the imprint that
--- its links lead from, and the links, the lowest first
+-- an aggregation chain: its time, its place in the tree of chains, the input data if present, the imprint that its links
+-- lead from, and the links, the lowest first
 pub record Aggregation : Type 0 where
   pub time : ℕ
   pub index : List ℕ
@@ -31,7 +31,7 @@ pub record Publishing : Type 0 where
 
 -- ---- limits
 
--- raw bytes beside a link are 1 to 4,096
+-- a raw sibling has 1 to 4,096 bytes
 abbrev pub HasSize : Sibling → Type 0
 HasSize (siblings.Imprint imprint) = Unit {0}
 HasSize (siblings.Legacy bytes) = (0 < length bytes) × (length bytes ≤ 4096)

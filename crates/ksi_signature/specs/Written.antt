@@ -16,6 +16,7 @@ use Rattle.ksi_signature.specs.Values.{Aggregation, Calendar, Publishing}
 use Rattle.ksi_signature.specs.declared.signature.Signature.{Signature}
 use Rattle.ksi_signature.specs.declared.refusal.WriteRefusal.{WriteRefusal}
 use Rattle.ksi_signature.specs.declared.refusal.WriteRefusal.TheVariants as refusals
+use Rattle.ksi_signature.specs.Kinds.{signature_kind, chain_kind, calendar_kind, publication_kind}
 
 abbrev pub side_kind : Side → ℕ
 side_kind Left = 7
@@ -28,7 +29,7 @@ sibling_element (siblings.Imprint bytes) = plain 2 bytes
 sibling_element (siblings.Legacy bytes) = plain 3 bytes
 sibling_element (siblings.Metadata bytes) = plain 4 bytes
 
--- a correction only where it is not 0
+-- a correction only if it is not 0
 abbrev pub correction_elements : ℕ → List Tlv
 correction_elements zero = []
 correction_elements (suc n) = plain 1 (numeral (suc n)) ∷ []
@@ -63,18 +64,18 @@ calendar_elements c =
 
 abbrev pub publishing_elements : Publishing → List Tlv
 publishing_elements p =
-    plain 16 (texts (published_elements p.time p.hash)) ∷ (map (plain 9) p.references ++ map (plain 10) p.repositories)
+    plain 0x10 (texts (published_elements p.time p.hash)) ∷ (map (plain 9) p.references ++ map (plain 0x0a) p.repositories)
 
 -- ---- signatures
 
 abbrev pub chain_element : Aggregation → Tlv
-chain_element c = plain 2049 (texts (chain_elements c))
+chain_element c = plain chain_kind (texts (chain_elements c))
 
 abbrev pub calendar_element : Calendar → Tlv
-calendar_element c = plain 2050 (texts (calendar_elements c))
+calendar_element c = plain calendar_kind (texts (calendar_elements c))
 
 abbrev pub publishing_element : Publishing → Tlv
-publishing_element p = plain 2051 (texts (publishing_elements p))
+publishing_element p = plain publication_kind (texts (publishing_elements p))
 
 abbrev pub optional_element : {A : Type 0} → (A → Tlv) → Option A → List Tlv
 optional_element element None = []
@@ -85,12 +86,12 @@ signature_elements s =
     map chain_element s.chains ++ (optional_element calendar_element s.calendar ++ optional_element publishing_element s.publication)
 
 unfoldable pub signature_text : Signature → List ℕ
-signature_text s = canonical (plain 2048 (texts (signature_elements s)))
+signature_text s = canonical (plain signature_kind (texts (signature_elements s)))
 
 -- ---- what may be too long
 
--- The sizes of the bodies that may pass what an element holds, in the order of writing, an inner one before the one that
--- it stands in. Numbers, imprints, links, published data and calendar chains are always shorter.
+-- The sizes of the bodies that may be too long for an element, in the order of writing, an inner one before the one that
+-- it is in. Numbers, imprints, links, published data and calendar chains are always shorter.
 abbrev pub body_sizes : Option (List ℕ) → List ℕ
 body_sizes None = []
 body_sizes (Some body) = length body ∷ []
@@ -113,7 +114,7 @@ abbrev pub first_long : List ℕ → Option ℕ
 first_long [] = None
 first_long (size ∷ sizes) = if nat_lt 65535 size then Some size else first_long sizes
 
--- none of these sizes is too long, or this is the first that is; nothing is said where memory was wanting
+-- none of these sizes is too long, or this is the first that is; nothing is claimed if the call ran out of memory
 abbrev pub TellsLong : {A : Type 0} → List ℕ → Result A (Refused WriteRefusal) → Type 0
 TellsLong sizes (Ok value) = first_long sizes ≡ None
 TellsLong sizes (Err (Fault (refusals.TooLong size))) = first_long sizes ≡ Some size

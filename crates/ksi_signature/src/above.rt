@@ -28,8 +28,8 @@ pub struct AboveChain {
     pub links: AboveLinks,
 }
 
-/// Links of a round, the lowest first: at most 17, each beside an imprint, but the lowest may stand beside the metadata of
-/// a name. A contract sees their list.
+/// Links of a round, the lowest first: at most 17, each with an imprint as sibling; the lowest may have the metadata of a
+/// name instead. A contract sees their list.
 #[derive(Drop)]
 pub struct AboveLinks {
     links: Vec<Link>,

@@ -91,7 +91,7 @@ fn chain_front(
     Ok(body)
 }
 
-/// The input hash of an aggregation chain, and what stands behind it.
+/// The input hash of an aggregation chain, and the part after it.
 fn put_chain_end(
     writer: &mut Writer,
     alloc: Global,

@@ -69,7 +69,7 @@ impl<'a> ChainView<'a> {
         imprint_in_chain(&self.at, self.head.input)
     }
 
-    /// What was hashed into the input, where it is told.
+    /// The body of the input data, if the chain has any.
     pub fn input_body(&self) -> Option<&'a [u8]>
         ensures { option_map (λ body. body.now) result ≡ (chain_seen self.now).input_body }
     {
@@ -105,8 +105,8 @@ impl<'a> ChainView<'a> {
         links_in(&self.at)
     }
 
-    /// The sibling of the link at a place, of the lowest at place 0: none past the last. A name in the old form is told from
-    /// metadata here.
+    /// The sibling of the link at a place, of the lowest at place 0: none past the last. A legacy identifier and metadata
+    /// are distinguished here.
     #[tactic(auto, unfolding(crate::specs::Contents::chain_in))]
     pub fn sibling(&self, place: usize) -> Option<SiblingView<'a>>
         ensures { option_map view_sibling result ≡ option_map (λ link. link.sibling) (slice_get (chain_seen self.now).links place) }
@@ -133,7 +133,7 @@ impl<'a> ChainView<'a> {
         climb_in::<C>(&self.at, start)
     }
 
-    /// The first right link whose raw sibling begins with 0x01, as an imprint does: none where there is none.
+    /// The first right link whose raw sibling begins with 0x01, as an imprint does, or none.
     #[tactic(auto, unfolding(crate::specs::Contents::chain_in))]
     pub fn bare_link(&self) -> Option<usize>
         ensures { result ≡ first_bare 0 (plain_links (chain_seen self.now).links) }

@@ -35,7 +35,7 @@ use std::alloc::Global;
 pub enum WithRefusal {
     /// The bytes are no signature: the first fault in reading order.
     Malformed(SignatureFault),
-    /// The new content has so many bytes, above 65,535.
+    /// The new content has this many bytes, above 65,535.
     TooLong(u64),
 }
 

@@ -28,7 +28,7 @@ impl<'a> IndexParts<'a> {
     ghost use Rattle.ksi_signature.specs.Heads.{parts_pass};
     ghost use Rattle.ksi_signature.specs.PartsLeft.{parts_left};
 
-    /// The parts of elements with so many of them.
+    /// The index parts of elements, this many.
     pub(crate) fn new(elements: Elements<'a>, left: usize) -> Self
         requires pass { parts_pass (whole (rest elements)) ≡ true }
         requires count { left ≡ length (bodies_of 3 (whole (rest elements))) }

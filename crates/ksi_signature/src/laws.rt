@@ -96,7 +96,7 @@ pub fn written_is_signature()
     numeral_is_read();
 }
 
-/// No link of a round's tree is bare: what stands raw stands beside a left link.
+/// No link of a round's tree is bare: a raw sibling belongs to a left link.
 pub fn round_links_are_not_bare()
     ensures { (links : List Link) → AreRoundLinks links → AllByRecursion (λ link. is_bare link ≡ false) (plain_links links) }
 {}

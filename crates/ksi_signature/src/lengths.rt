@@ -15,7 +15,7 @@ use crate::signature::{CalendarChain, PublicationRecord};
 use ksi_calendar::CalendarLink;
 use ksi_imprint::{Bytes, Imprint};
 
-/// An element with a body of so many bytes.
+/// An element with a body of this many bytes.
 pub(crate) fn size_of(kind: u16, body: u64) -> u64
     ensures { result ≡ capped (size_of kind body) }
 {

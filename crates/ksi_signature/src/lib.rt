@@ -1,24 +1,24 @@
 //! Signatures of Keyless Signatures' Infrastructure (Buldas, Kroonmaa, Laanoja, "Keyless Signatures' Infrastructure",
 //! 2013): aggregation chains from a document's hash to the root of a second, a calendar chain from there to the root of a
 //! calendar tree, and a record of where that root was published. A file is one TLV element with these inside, in any
-//! order: Guardtime's published format, as docs/FORMATS.md tells it.
+//! order: Guardtime's published format, described in docs/FORMATS.md.
 //!
-//! The layer above may rely on this: [`view`] lends exactly the signature that the bytes are, or gives the first fault in
-//! reading order, and takes no memory; [`read`] is that view copied, and [`check`] whether there is one; for all bytes
-//! exactly one of signature and fault stands; chains stand by falling number of index parts; and the types and the calls
-//! of a view keep what the format limits: 1 to 16 chains, an index of 1 part or more, at most 63 links, raw siblings of 1
-//! to 4,096 bytes, and times below 2^63. What [`write`] gives is the text of
-//! the signature, and is that signature again ([`laws::written_is_signature`]); it refuses the first body, in the order of
-//! writing and an inner one before an outer, that has more than 65,535 bytes.
+//! The layer above may rely on this: [`view`] borrows exactly the signature that the bytes encode, or returns the first
+//! fault in reading order, and allocates no memory; [`read`] copies that view, and [`check`] returns whether there is one.
+//! All bytes have either a signature or a fault, not both. Chains are ordered by falling number of index parts. The types
+//! and the calls of a view keep the format's limits: 1 to 16 chains, an index of 1 part or more, at most 63 links, raw
+//! siblings of 1 to 4,096 bytes, and times below 2^63. [`write`] returns the text of the signature, and reading the text
+//! returns the signature ([`laws::written_is_signature`]); it refuses the first body, in the order of writing and an inner
+//! one before an outer, that has more than 65,535 bytes.
 //!
-//! [`with_calendar`] gives a signature another calendar chain and publication record, all else that is passed on byte for
-//! byte, and [`issue`] the bytes of the signature of an item, from the links of its round and an [`Above`]: exactly what
-//! `extended_text` and `issued` say, and each is read again as that signature.
+//! [`with_calendar`] replaces the calendar chain and the publication record of a signature and copies the rest byte for
+//! byte. [`issue`] returns the bytes of the signature of an item, from the links of its round and an [`Above`]. The results
+//! are exactly `extended_text` and `issued`, and each is read again as that signature.
 //!
 //! ```text
 //! let signature = read(alloc, bytes)?;
 //! if let [first, ..] = signature.chains.as_slice() {
-//!     // the next chain goes on from this item, at its level
+//!     // the next chain continues from this node, at its level
 //!     let top = climb::<Sha, Link>(first.input, 0, first.links.as_slice())?;
 //! }
 //! let proved = signature.calendar.as_ref().map(|chain| climb_calendar::<Sha>(chain.input, chain.links.as_slice()));

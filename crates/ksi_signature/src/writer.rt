@@ -18,14 +18,14 @@ use ksi_tlv::Writer;
 use ksi_tlv::grammar::put_short;
 use std::alloc::Global;
 
-/// A signature as it is written: the elements of each container in the order of docs/FORMATS.md, without flags and in
-/// their shortest form, a correction only where it is not 0, and the aggregation time of a calendar chain always. `read`
-/// gives the signature again.
+/// The text of a signature: the elements of each container in the order of docs/FORMATS.md, without flags and in their
+/// shortest form, a correction only if it is not 0, and always the aggregation time of a calendar chain. `read` returns
+/// the signature again.
 ///
 /// # Errors
 ///
-/// `TooLong` exactly where the body of an element has more than 65,535 bytes, with the size of the first such: in the
-/// order of writing, an inner element before the one that it stands in. `NoMemory` where memory was wanting.
+/// `TooLong` exactly if the body of an element has more than 65,535 bytes, with the size of the first such: in the order
+/// of writing, an inner element before its parent. `NoMemory` if memory ran out.
 pub fn write(alloc: Global, signature: &Signature) -> Result<Bytes, Refused<WriteRefusal>>
     ensures text { IfOk result (λ bytes. bytes ≡ signature_text signature.now) }
     ensures fits { OnOk result (first_long (sizes_of signature.now) ≡ None) }

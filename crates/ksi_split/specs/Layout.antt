@@ -1,4 +1,4 @@
--- How a way lies in its struct: its sides, and left sides behind them.
+-- The layout of a path in its struct: its sides, and left sides after them.
 use Rattle.std.specs.Prelude.{◌≡◌, ℕ, ◌-◌, ◌≤◌, List, ◌++◌, take, drop, length, replicate}
 use Rattle.std.proofs.Common.{arith, ap, ◌∙◌, sym}
 use Rattle.std.proofs.lemmas.List.{length-take-le, take-append-drop}
@@ -6,11 +6,11 @@ use Rattle.ksi_split.specs.declared.side.Side.{Side}
 use Rattle.ksi_split.specs.declared.side.Side.TheVariants.{Left}
 use Rattle.ksi_split.specs.declared.sides.Way.TheInside.{Inside}
 
--- the sides of a way
+-- the sides of a path
 abbrev pub sides_in : Inside → List Side
 sides_in way = take way.count way.sides
 
--- at most 63 sides, and left sides behind them up to 63
+-- at most 63 sides, and left sides after them up to 63
 pub record IsFilled (way : Inside) : Type 0 where
   pub few : way.count ≤ 63
   pub room : length way.sides ≡ 63
@@ -20,7 +20,7 @@ pub record IsFilled (way : Inside) : Type 0 where
 abbrev pub way_with : List Side → Inside
 way_with sides = record { sides = sides ++ replicate (63 - length sides) Left; count = length sides }
 
--- the sides of a way tell the whole struct
+-- the sides of a path determine the whole struct
 pub way_with-sides_in : (way : Inside) → IsFilled way → way_with (sides_in way) ≡ way
 way_with-sides_in way h =
     let count : length (take way.count way.sides) ≡ way.count = length-take-le way.count way.sides (omega (arith, h.few, h.room)) in

@@ -1,13 +1,13 @@
 -- The leaves of a tree that grows at its end.
 use Rattle.std.specs.Prelude.{ℕ, ◌-◌, nat_lt, List, slice_index_or, if◌then◌else◌}
 
--- the leaves: so many that are `before`, and those that came behind them
+-- the leaves: `start` of them are `before`, then come the ones that were added
 pub record Leaves (A : Type 0) : Type 0 where
   pub start : ℕ
   pub before : A
   pub items : List A
 
--- leaf i, where the first `start` are `before`
+-- leaf i; the first `start` are `before`
 abbrev pub leaf_at : {A : Type 0} → ℕ → A → List A → ℕ → A
 leaf_at start before items i = if nat_lt i start then before else slice_index_or items (i - start) before
 

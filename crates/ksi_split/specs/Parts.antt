@@ -16,12 +16,12 @@ abbrev pub half_of : Part → Side → Part
 half_of part Left = record { first = part.first; count = split_of part.count }
 half_of part Right = record { first = part.first + split_of part.count; count = part.count - split_of part.count }
 
--- the part that sides from the top lead to, or the place of the side that passes a leaf; the first side has the place given
+-- the part that sides from the top lead to, or the place of the first side below a leaf, counted from the place given
 abbrev pub part_at : ℕ → Part → List Side → Result Part ℕ
 part_at place part [] = Ok part
 part_at place part (side ∷ sides) = if part.count == 1 then Err place else part_at (place + 1) (half_of part side) sides
 
--- the second that a part is, or why it is none
+-- the second that a part is, or the fault if it is not one second
 abbrev pub second_in : Result Part ℕ → Result ℕ ShapeFault
 second_in (Ok part) = if part.count == 1 then Ok part.first else Err (TooFew (part.count - 1))
 second_in (Err place) = Err (TooMany place)

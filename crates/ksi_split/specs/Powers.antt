@@ -1,4 +1,4 @@
--- Powers of two, and where a number of leaves is split.
+-- Powers of two, and the split of a number of leaves.
 use Rattle.std.specs.Prelude.{ℕ, zero, suc, ◌+◌, ◌*◌, ◌^◌, ◌<◌, ◌≤◌, nat_lt, if◌then◌else◌}
 use Rattle.std.specs.Int.{IsPowerOfTwo}
 

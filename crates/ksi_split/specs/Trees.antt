@@ -32,19 +32,19 @@ path_within join leaf (suc k) lo t n =
 unfoldable pub path_of : {A : Type 0} → (A → A → A) → (ℕ → A) → ℕ → ℕ → ℕ → List (TreeLink A)
 path_of join leaf lo t n = path_within join leaf n lo t n
 
--- where one link leads from a node, by the side that the node has
+-- the node that one link leads to, by the side of the node below it
 abbrev pub link_from : {A : Type 0} → (A → A → A) → A → TreeLink A → Side → A
 link_from join x s Left = join x s.sibling
 link_from join x s Right = join s.sibling x
 
--- where links lead from a node, the lowest first
+-- the node that links lead to, the lowest first
 abbrev pub climb_links : {A : Type 0} → (A → A → A) → A → List (TreeLink A) → A
 climb_links join x [] = x
 climb_links join x (s ∷ links) = climb_links join (link_from join x s s.side) links
 
 -- ---- nodes
 
--- the tree of the part that sides lead to, where they lead to one
+-- the tree of the part that sides lead to, if they lead to one
 abbrev pub node_in : {A : Type 0} → (A → A → A) → (ℕ → A) → Result Part ℕ → Option A
 node_in join leaf (Ok part) = Some (tree join leaf part.first part.count)
 node_in join leaf (Err place) = None

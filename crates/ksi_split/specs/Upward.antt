@@ -13,7 +13,7 @@ unfoldable pub whole : {A : Type 0} → (A → A → A) → (ℕ → A) → ℕ 
 whole join leaf zero j = leaf j
 whole join leaf (suc k) j = join (whole join leaf k (2 * j)) (whole join leaf k (2 * j + 1))
 
--- part j of 2 ^ k leaves, where the leaves end at `last`
+-- part j of 2 ^ k leaves, if `last` is the last leaf
 unfoldable pub node : {A : Type 0} → (A → A → A) → (ℕ → A) → ℕ → ℕ → ℕ → A
 node join leaf last zero j = leaf j
 node join leaf last (suc k) j =
@@ -21,7 +21,7 @@ node join leaf last (suc k) j =
     then join (node join leaf last k (2 * j)) (node join leaf last k (2 * j + 1))
     else node join leaf last k (2 * j)
 
--- the link up from part j of 2 ^ k leaves: none from a last part that stands alone
+-- the link up from part j of 2 ^ k leaves: none from a last part without a sibling
 unfoldable pub link_up : {A : Type 0} → (A → A → A) → (ℕ → A) → ℕ → ℕ → ℕ → List (TreeLink A)
 link_up join leaf last k j =
     if j % 2 == 1 then record { side = Right; sibling = node join leaf last k (j - 1) } ∷ []

@@ -14,8 +14,8 @@ pub fn one_split()
     ensures high_bit { (n k : ℕ) → 0 < n → IsHighBit n k ↔ (k ≡ high_bit_of n) }
 {}
 
-/// Each leaf has one way: the one that `way_of` computes. It has no sides where there is one leaf. Else it is left and
-/// the way among the leaves of the left part, or right and the way among the others.
+/// Each leaf has one path: the one that `way_of` computes. If there is one leaf, the path has no sides. Otherwise it is
+/// left and the path among the leaves of the left part, or right and the path among the others.
 pub fn one_way()
     ensures way { (t n : ℕ) (sides : List Side) → IsWay t n sides ↔ ((t < n) × (sides ≡ way_of t n)) }
     ensures one_leaf { way_of 0 1 ≡ [] }

@@ -12,7 +12,7 @@ use crate::zeros::Zeros;
 use std::alloc::Global;
 use std::sync::ledger::Ledger;
 
-/// How many leaves stand in the lowest row.
+/// How many leaves are in the lowest row.
 pub(crate) fn count<N: Copy>(rows: &Vec<Row<N>>) -> u64
     ensures { result ≡ length (row_at rows.now.items 0) }
 {
@@ -122,7 +122,7 @@ fn make<N: Copy>(alloc: Global, rows: &mut Vec<Row<N>>, levels: usize) -> Result
     Ok(())
 }
 
-/// Makes room for so many parts in a row.
+/// Makes room for this many parts in a row.
 fn grow_one<N: Copy>(rows: &mut Vec<Row<N>>, level: usize, more: usize) -> Result<(), NoMemory>
     requires { level < vec_len rows.old }
     ensures len { vec_len rows.new ≡ vec_len rows.old }

@@ -1,15 +1,14 @@
-//! Where a tree over numbered leaves is cut, the ways from its top to its leaves, the second that a way names, and trees
-//! that grow by leaves at their end. The cut is that of a Merkle tree in RFC 9162, 2.1.1.
+//! How a tree over numbered leaves is split, the paths from its top to its leaves (`way`), the second that a path names,
+//! and trees that grow at their end. The split is that of a Merkle tree in RFC 9162, 2.1.1.
 //!
-//! A tree of more than one leaf is cut at the greatest power of two below the number of its leaves: so many stand
-//! under its left part, the others under its right part (Buldas, Kroonmaa, Laanoja, "Keyless Signatures'
-//! Infrastructure", 2013). In the calendar the leaves are the seconds from 0, and a calendar published for second `p`
-//! has `p + 1` of them.
+//! A tree of n leaves, n above 1, is split at the greatest power of two below n: that many leaves are in its left part,
+//! the others in its right part (Buldas, Kroonmaa, Laanoja, "Keyless Signatures' Infrastructure", 2013). In the calendar
+//! the leaves are the seconds from 0, and a calendar published for second `p` has `p + 1` of them.
 //!
-//! The layer above may rely on this: `split` and `high_bit` give exactly these powers of two; `way` gives the one way
-//! to a leaf; `second_of` gives the one second whose way the sides are, or says at which side they pass a second, or
-//! how many seconds more than one they leave open. None of these takes memory. What holds of ways is in `laws`, and what
-//! holds of trees, whatever joins their nodes, in `trees`.
+//! The layer above may rely on this: `split` and `high_bit` return exactly these powers of two; `way` returns the one path
+//! to a leaf; `second_of` returns the one second whose path the sides are, or at which side they go below a leaf, or how
+//! many seconds more than one they leave open. None of these allocates memory. Laws on paths are in `laws`, and laws on
+//! trees, for any join of their nodes, in `trees`.
 //!
 //! ```
 //! let sides = way(2, 6);
@@ -18,15 +17,14 @@
 //! assert_eq!(second_of(5, &[Side::Left]), Err(ShapeFault::TooFew(3)));
 //! ```
 //!
-//! [`Rows`] is a tree that grows, kept as rows of complete parts. The first `start` leaves are all alike and are never
-//! walked: for each size `2 ^ k` that is at most `start`, one of their complete parts is made. Behind them leaves come one
-//! by one. For each size `2 ^ k` a row keeps the complete parts of so many leaves that do not end before the start; it is
-//! made when its first part comes.
+//! [`Rows`] is a tree that grows, stored as rows of complete parts. The first `start` leaves are all alike and are never
+//! walked: for each size `2 ^ k` up to `start`, one of their complete parts is computed. After them leaves are added one
+//! by one. For each size `2 ^ k` a row has the complete parts of `2 ^ k` leaves that do not end before the start; the row
+//! is made with its first part.
 //!
-//! Of it the layer above may rely on this: `root`, `node` and `path` are those of the tree over all leaves to `last`,
-//! joined as the implementation of [`Joins`] says, and none of them but `path` takes memory; after a refused `append` or
-//! `append_all` all is as it was. A step is one read of a kept part, and `path_counted` says how many steps it takes at
-//! least and at most.
+//! The layer above may rely on this: `root`, `node` and `path` are those of the tree over all leaves to `last`, joined by
+//! the implementation of [`Joins`], and only `path` allocates memory; a refused `append` or `append_all` changes nothing.
+//! A step is one read of a stored part, and `path_counted` has bounds on the number of steps from both sides.
 //!
 //! ```text
 //! let mut rows = Rows::<u64, Sums>::new(alloc, 2, 0)?;

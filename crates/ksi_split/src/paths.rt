@@ -12,8 +12,8 @@ use std::alloc::Global;
 use std::marker::{Brand, Model};
 use std::sync::ledger::{Blank, Ledger};
 
-/// The paths of the tree over the leaves to one that stands. The part of each level that the last leaf is in is computed
-/// once for all of them, so a path costs reads alone. A contract sees the leaves and the last of them.
+/// The paths of the tree over the leaves to an existing one. The part of each level that the last leaf is in is computed
+/// once for all of them, so a path costs only reads. A contract sees the leaves and the last of them.
 #[derive(Drop)]
 pub struct Paths<'a, N: Copy, J: Joins<N>> {
     rows: &'a Rows<N, J>,
@@ -52,7 +52,7 @@ impl<'a, N: Copy, J: Joins<N>> Paths<'a, N, J> {
     }
 }
 
-/// The paths of the tree over the leaves to `last`, which is a leaf that stands.
+/// The paths of the tree over the leaves to `last`, which is an existing leaf.
 pub(crate) fn paths_from<'a, N: Copy, J: Joins<N>, L: Ledger>(
     rows: &'a Rows<N, J>,
     last: u64,

@@ -13,7 +13,7 @@ pub fn high_bit(n: u64) -> u64
     1 << n.ilog2()
 }
 
-/// The greatest power of two below `n`: so many of `n` leaves stand in the left part.
+/// The greatest power of two below `n`: this many of `n` leaves are in the left part.
 pub fn split(n: u64) -> u64
     requires { 1 < n }
     ensures power { IsPowerOfTwo result }

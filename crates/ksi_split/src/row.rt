@@ -47,7 +47,7 @@ impl<N: Copy> Row<N> {
         self.parts[at]
     }
 
-    /// Makes room for so many parts more, and for no other where they are the first: most rows of small trees have one.
+    /// Makes room for this many parts more, and for no other where they are the first: most rows of small trees have one.
     pub(crate) fn grow(&mut self, more: usize) -> Result<(), NoMemory>
         ensures parts { self.new.parts ≡ self.old.parts }
         ensures room { OnOk result (more ≤ self.new.room) }

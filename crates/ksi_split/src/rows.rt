@@ -93,7 +93,7 @@ impl<N: Copy, J: Joins<N>> Rows<N, J> {
         self.part(0, at, steps)
     }
 
-    /// The root of the tree over the leaves to `last`, which is a leaf that stands.
+    /// The root of the tree over the leaves to `last`, which is an existing leaf.
     pub fn root(&self, last: u64) -> N
         requires { last < self.now.start + length self.now.items }
         ensures { result ≡ tree J.joined (leaf_of self.now) 0 (last + 1) }
@@ -101,8 +101,8 @@ impl<N: Copy, J: Joins<N>> Rows<N, J> {
         root_from::<N, J, Brand>(self, last, Blank::new(1))
     }
 
-    /// The part that sides from the top lead to in the tree over the leaves to `last`, which is a leaf that stands; none
-    /// where the sides pass a leaf.
+    /// The part that sides from the top lead to in the tree over the leaves to `last`, which is an existing leaf; none if
+    /// the sides pass a leaf.
     pub fn node(&self, last: u64, sides: &[Side]) -> Option<N>
         requires { last < self.now.start + length self.now.items }
         ensures { result ≡ node_at J.joined (leaf_of self.now) last sides.now }
@@ -111,10 +111,10 @@ impl<N: Copy, J: Joins<N>> Rows<N, J> {
     }
 
     /// The links from leaf `t` up to the root of the tree over the leaves to `last`, the lowest first; `t` is at most
-    /// `last`, which is a leaf that stands.
+    /// `last`, which is an existing leaf.
     ///
     /// # Errors
-    /// `NoMemory`: all is as it was.
+    /// `NoMemory`: nothing has changed.
     pub fn path(&self, t: u64, last: u64) -> Result<Vec<TreeLink<N>>, NoMemory>
         requires within { t ≤ last }
         requires covered { last < self.now.start + length self.now.items }
@@ -157,10 +157,11 @@ impl<N: Copy, J: Joins<N>> Rows<N, J> {
         Ok(path)
     }
 
-    /// The paths of the tree over the leaves to `last`, which is a leaf that stands. What they share is computed once.
+    /// The paths of the tree over the leaves to `last`, which is an existing leaf. The parts that they share are computed
+    /// once.
     ///
     /// # Errors
-    /// `NoMemory`: all is as it was.
+    /// `NoMemory`: nothing has changed.
     pub fn paths(&self, last: u64) -> Result<Paths<'_, N, J>, NoMemory>
         requires { last < self.now.start + length self.now.items }
         ensures { IfOk result (λ paths. paths ≡ record { leaves = self.now; last = last }) }

@@ -17,6 +17,6 @@ last_round = 4294967295
 abbrev pub IsBallot : ℕ → Type 0
 IsBallot ballot = (16 ≤ ballot) × (ballot < 2 ^ 36)
 
--- a ballot, where 0 stands for none
+-- a ballot number, or 0 for no ballot
 abbrev pub some_ballot : ℕ → Option ℕ
 some_ballot ballot = if ballot == 0 then None else Some ballot

@@ -1,4 +1,4 @@
--- What the fields of a CorePlan mean: its pairs stand at the front of an array, and behind them it has pairs of no voters.
+-- The meaning of the fields of a CorePlan: an array starts with its pairs, and the rest is padding (pairs without voters).
 use Rattle.std.proofs.Common.{◌≡◌, ℕ, zero, suc, List, [], ◌∷◌, length, take, sym, ap, ◌∙◌}
 use Rattle.ksi_synod.specs.declared.core_plan.VotersFrom.{VotersFrom}
 use Rattle.ksi_synod.specs.declared.core_plan.CorePlan.TheInside.{Inside}
@@ -7,7 +7,7 @@ use Rattle.ksi_synod.specs.CorePlans.{CorePlanState, IsCorePlan}
 abbrev pub no_pair : VotersFrom
 no_pair = record { second = 0; voters = [] }
 
--- the pairs, and behind them as many without voters as make so many
+-- the pairs, padded to n with pairs without voters
 unfoldable pub padded : (room : ℕ) → List VotersFrom → List VotersFrom
 padded zero pairs = pairs
 padded (suc room) [] = no_pair ∷ padded room []

@@ -1,4 +1,4 @@
--- A set of cores as flags and as a rising list: what the flags of a Voters mean, and that they say the same.
+-- A set of cores as flags and as an ascending list: the meaning of the flags of a Voters, and that both agree.
 use Rattle.std.proofs.Common.{◌≡◌, ℕ, zero, suc, ◌<◌, ◌≤◌, Bool, true, false, ◌||◌, eqb, List, [], ◌∷◌, ◌++◌, length, take, map, refl, sym, ap, ◌∙◌, arith, inl, inr}
 use Rattle.std.specs.Prelude.{if◌then◌else◌}
 use Rattle.std.proofs.lemmas.Bool.{cases_eq, cond_both, eq-eqb, ne_eqb, or_right}
@@ -8,12 +8,12 @@ use Rattle.std.proofs.lemmas.List.Folds.{list_any-append}
 use Rattle.ksi_synod.specs.Voters.{cores_below, is_voter, is_flagged}
 use Rattle.ksi_synod.specs.declared.voters.Voters.TheInside.{Inside}
 
--- the cores below n whose flag is set, rising
+-- the cores below n whose flag is set, in ascending order
 abbrev pub flagged_below : (flags : List Bool) (n : ℕ) → List ℕ
 flagged_below flags zero = []
 flagged_below flags (suc n) = if is_flagged flags n then flagged_below flags n ++ n ∷ [] else flagged_below flags n
 
--- the cores 0 to 8 whose flag is set, rising
+-- the cores 0 to 8 whose flag is set, in ascending order
 unfoldable pub flagged_cores : (flags : List Bool) → List ℕ
 flagged_cores flags = flagged_below flags 9
 
@@ -21,7 +21,7 @@ flagged_cores flags = flagged_below flags 9
 unfoldable pub flags_of : (voters : List ℕ) → List Bool
 flags_of voters = map (is_voter voters) (cores_below 9)
 
--- one core more
+-- the same with one more core
 is_voter-more : (voters : List ℕ) (n core : ℕ) (one : Bool) → eqb n core ≡ one → is_voter (voters ++ n ∷ []) core ≡ (is_voter voters core || one)
 is_voter-more voters n core true is = list_any-append (λ voter. eqb voter core) voters (n ∷ []) ∙ ap (λ b. is_voter voters core || (b || false)) is
 is_voter-more voters n core false is = list_any-append (λ voter. eqb voter core) voters (n ∷ []) ∙ ap (λ b. is_voter voters core || (b || false)) is
@@ -64,7 +64,7 @@ module _ (flags : List Bool) where
   unfolding flags_of flagged_cores
   flags_of-flagged_cores nine = flags_below 9 9 (omega arith) (omega arith) ∙ take_all 9 flags (omega arith)
 
--- the fields of the Voters with these cores
+-- the fields of the Voters value with these cores
 abbrev pub fields_of : (voters : List ℕ) → Inside
 fields_of voters = record { flags = flags_of voters }
 

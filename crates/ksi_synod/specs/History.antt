@@ -1,4 +1,4 @@
--- Histories of the vote on one second: what each core keeps, and all that was ever sent, after any list of events.
+-- Histories of the vote on one second: each core's state and all messages ever sent, after any list of events.
 use Rattle.std.specs.Prelude.{ℕ, ◌≤◌, Bool, true, ◌==◌, nat_lt, if◌then◌else◌, IsTrue, List, [], ◌∷◌, ◌++◌, map, slice_get, Option, Some, None}
 use Rattle.std.specs.List.{list_all}
 use Rattle.ksi_synod.specs.declared.messages.SynodMessage.{SynodMessage}
@@ -7,12 +7,12 @@ use Rattle.ksi_synod.specs.Voters.{cores_below}
 use Rattle.ksi_synod.specs.VoteState.{VoteState, fresh_vote}
 use Rattle.ksi_synod.specs.Rows.{seal, try_ballot, ballot_told, held_told, restarted, receive}
 
--- how many cores there are, and which of them vote
+-- the number of cores, and which of them vote
 pub record SetUp : Type 0 where
   pub cores : ℕ
   pub voters : List ℕ
 
--- a core seals its candidate, tries a ballot, tells what it holds or restarts; the message of a number is delivered. A
+-- a core seals its candidate, tries a ballot, sends the decree that it holds, or restarts; or message n is delivered. A
 -- message that no event delivers is lost, and one that several deliver is repeated
 pub data Event : Type 0 where
   Seal : (core : ℕ) (candidate : List ℕ) → Event
@@ -26,12 +26,12 @@ pub record Message : Type 0 where
   pub addressee : ℕ
   pub what : SynodMessage
 
--- what stands at a moment: the state of each core, and all messages sent so far, numbered from 0
+-- the state of each core, and all messages sent so far, numbered from 0
 pub record Moment : Type 0 where
   pub states : ℕ → VoteState
   pub wire : List Message
 
--- WHAT IS SENT, AND TO WHOM
+-- MESSAGES SENT, AND THEIR ADDRESSEES
 
 -- LastVote and Voted go to the core that they answer, NextBallot and BeginBallot to each voter, Success to each core
 abbrev pub addressees : SetUp → (answered : ℕ) → SynodMessage → List ℕ
@@ -59,7 +59,7 @@ put states core new k = if k == core then new else states k
 abbrev pub stepped : SetUp → Moment → (core answered : ℕ) → VoteState × Option SynodMessage → Moment
 stepped set_up m core answered r = record { states = put m.states core r.0; wire = m.wire ++ sends_of set_up core answered r.1 }
 
--- the addressee takes the message, where there is one of the number
+-- the addressee takes the message, if there is one with this number
 abbrev pub delivered : SetUp → Moment → Option Message → Moment
 delivered set_up m None = m
 delivered set_up m (Some x) = stepped set_up m x.addressee x.sender (receive (m.states x.addressee) x.sender x.what)
@@ -81,7 +81,7 @@ abbrev pub run : SetUp → Moment → List Event → Moment
 run set_up m [] = m
 run set_up m (e ∷ es) = run set_up (happens set_up m e) es
 
--- after the events, the first of them first
+-- after the events, applied in order
 abbrev pub after : SetUp → List Event → Moment
 after set_up events = run set_up (first_moment set_up) events
 
@@ -93,12 +93,12 @@ is_event cores (Tell core) = nat_lt core cores
 is_event cores (Deliver number) = true
 is_event cores (Restart core) = nat_lt core cores
 
--- at most nine cores, whichever of them vote, and events of these cores
+-- at most nine cores, any of which may vote, and events of these cores only
 pub record IsHistory (set_up : SetUp) (events : List Event) : Type 0 where
   pub few : set_up.cores ≤ 9
   pub theirs : IsTrue (list_all (is_event set_up.cores) events)
 
--- what a core holds, and what it sealed
+-- the decree that a core holds, and the candidate that it sealed
 abbrev pub held_by : Moment → (core : ℕ) → Option (List ℕ)
 held_by m core = (m.states core).held
 

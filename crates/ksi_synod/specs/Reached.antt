@@ -1,4 +1,4 @@
--- The vote on one second as single steps of cores, whoever numbers and delivers the messages: for layers whose histories
+-- The vote on one second as single steps of cores, however messages are numbered and delivered: for layers whose histories
 -- have more than one second.
 use Rattle.std.specs.Prelude.{◌≡◌, ◌≢◌, ℕ, ◌<◌, List, [], ◌∷◌, Option, Some, None}
 use Rattle.ksi_synod.specs.declared.messages.SynodMessage.{SynodMessage}
@@ -13,17 +13,17 @@ pub record Said : Type 0 where
 abbrev pub says : ℕ → SynodMessage → Said
 says by what = record { by = by; what = what }
 
--- it was said, the newest first
+-- the message is in the list, newest first
 pub data Has : List Said → Said → Type 0 where
   here : {x : Said} {said : List Said} → Has (x ∷ said) x
   there : {x y : Said} {said : List Said} → Has said y → Has (x ∷ said) y
 
--- with what a core says now, if anything
+-- the list with the message that a core sends now, if any
 abbrev pub more : Option SynodMessage → (core : ℕ) → List Said → List Said
 more None core said = said
 more (Some m) core said = says core m ∷ said
 
--- a step of a core: its state after it, and what it says
+-- a step of a core: its new state, and the message it sends
 pub data IsStep (core : ℕ) (s : VoteState) (said : List Said) (r : VoteState × Option SynodMessage) : Type 0 where
   seals : (candidate : List ℕ) → r ≡ (seal s candidate, None) → IsStep core s said r
   tries : core < 16 → r ≡ ((try_ballot s).0, ballot_told (try_ballot s).1) → IsStep core s said r
@@ -31,7 +31,7 @@ pub data IsStep (core : ℕ) (s : VoteState) (said : List Said) (r : VoteState �
   takes : (from : ℕ) (m : SynodMessage) → Has said (says from m) → r ≡ receive s from m → IsStep core s said r
   restarts : r ≡ (restarted s, None) → IsStep core s said r
 
--- what the cores' states and all that was said can be after some steps, each of one core
+-- the states of the cores and the messages sent that some steps can reach, each step being one core's
 pub data Reached (voters : List ℕ) : (ℕ → VoteState) → List Said → Type 0 where
   start : {states : ℕ → VoteState} → ((k : ℕ) → states k ≡ fresh_vote k voters) → Reached voters states []
   step : {states states' : ℕ → VoteState} {said : List Said} {r : VoteState × Option SynodMessage} (core : ℕ) →

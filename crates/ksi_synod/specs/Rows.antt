@@ -1,6 +1,6 @@
 -- The steps of the vote on one second (Lamport, "The Part-Time Parliament", 2.3, the basic protocol, steps 1 to 6), in the
--- order of the protocol. Each is a function from a core's
--- state to its state after the step and its answer. Where the condition of a step does not hold, the state stays.
+-- order of the protocol. Each is a function from a core's state to its state after the step and its answer. If the condition
+-- of a step does not hold, the state is unchanged.
 use Rattle.std.specs.Prelude.{ℕ, ◌+◌, max, Bool, true, false, not, ◌&&◌, ◌==◌, nat_lt, if◌then◌else◌, List, slice_set, is_none, unwrap_or, Option, Some, None}
 use Rattle.ksi_synod.specs.declared.messages.Vote.{Vote}
 use Rattle.ksi_synod.specs.declared.messages.LastVote.{LastVote}
@@ -14,12 +14,12 @@ use Rattle.ksi_synod.specs.Voters.{is_flagged, is_voter, is_majority}
 use Rattle.ksi_synod.specs.Ballots.{ballot_number, round_of, last_round, IsBallot}
 use Rattle.ksi_synod.specs.VoteState.{VoteState, Hand, new_hand}
 
--- SEAL: the candidate is set
+-- SEAL: set the candidate
 
 abbrev pub sealed_with : VoteState → (candidate : List ℕ) → VoteState
 sealed_with s candidate = record s { candidate = Some candidate }
 
--- it is set once
+-- it is set only once
 abbrev pub seal_of : (sealed : Option (List ℕ)) → VoteState → (candidate : List ℕ) → VoteState
 seal_of None s candidate = sealed_with s candidate
 seal_of (Some sealed) s candidate = s
@@ -27,9 +27,9 @@ seal_of (Some sealed) s candidate = s
 unfoldable pub seal : VoteState → (candidate : List ℕ) → VoteState
 seal s candidate = seal_of s.candidate s candidate
 
--- BALLOT, step 1: NextBallot(b) is to go out for the core's ballot of the next round, which is now in hand
+-- BALLOT, step 1: send NextBallot(b) for the core's ballot of the next round, which becomes the ballot in hand
 
--- the round to go beyond
+-- the round that the new ballot must exceed
 abbrev pub greater_round : VoteState → ℕ
 greater_round s = max (round_of s.tried) (round_of s.promised)
 
@@ -46,7 +46,7 @@ try_ballot_of (Some candidate) s =
 unfoldable pub try_ballot : VoteState → VoteState × Begun
 try_ballot s = try_ballot_of s.candidate s
 
--- NEXTBALLOT(b), step 2: above the promise it is promised, and LastVote tells the vote cast so far
+-- NEXTBALLOT(b), step 2: if b is greater than the promise, promise b and report the vote cast so far in LastVote
 
 unfoldable pub on_next : VoteState → (ballot : ℕ) → VoteState × Option LastVote
 on_next s ballot =
@@ -56,27 +56,27 @@ on_next s ballot =
 
 -- LASTVOTE(b, v) from a core, step 3
 
--- whether it counts: the hand is of this ballot, nothing is begun, and the sender is a voter that did not count yet
+-- whether it counts: the ballot is in hand, no decree was begun, and the sender is a voter that has not counted yet
 abbrev pub counts_last : (voters : List ℕ) → Option Hand → (from ballot : ℕ) → Bool
 counts_last voters None from ballot = false
 counts_last voters (Some h) from ballot = (h.ballot == ballot) && (is_none h.decree && (is_voter voters from && not (is_flagged h.last from)))
 
--- the vote of the greater ballot; of equal ballots the one that came first
+-- the vote with the greater ballot; if ballots are equal, the one that came first
 abbrev pub greater_vote : (old new : Option Vote) → Option Vote
 greater_vote None new = new
 greater_vote (Some old) None = Some old
 greater_vote (Some old) (Some new) = if nat_lt old.ballot new.ballot then Some new else Some old
 
--- the sender counts, with its vote
+-- count the sender, with its vote
 abbrev pub with_last : Hand → (from : ℕ) (vote : Option Vote) → Hand
 with_last h from vote = record h { last = slice_set h.last from true; greatest = greater_vote h.greatest vote }
 
--- the imprint of the greatest vote, or the candidate where no vote was told
+-- the imprint of the greatest vote, or the candidate if no vote was reported
 abbrev pub decree_of : (greatest : Option Vote) (candidate : Option (List ℕ)) → Option (List ℕ)
 decree_of None candidate = candidate
 decree_of (Some vote) candidate = Some vote.imprint
 
--- the decree to begin, once a majority counts
+-- the decree to begin, once a majority has counted
 abbrev pub decree_now : (voters : List ℕ) (candidate : Option (List ℕ)) → Hand → Option (List ℕ)
 decree_now voters candidate h = if is_majority voters h.last then decree_of h.greatest candidate else None
 
@@ -84,7 +84,7 @@ abbrev pub took_of : (decree : Option (List ℕ)) → Took
 took_of None = Added
 took_of (Some decree) = Decree decree
 
--- the decree, if any, is in hand and is the answer: BeginBallot(b, decree) is to go out
+-- the decree, if any, is stored in the hand and returned: send BeginBallot(b, decree)
 abbrev pub begun_with : VoteState → Hand → (decree : Option (List ℕ)) → VoteState × Took
 begun_with s h decree = (record s { hand = Some (record h { decree = decree }) }, took_of decree)
 
@@ -98,8 +98,8 @@ on_last_of (Some h) s from ballot vote =
 unfoldable pub on_last : VoteState → (from ballot : ℕ) (vote : Option Vote) → VoteState × Took
 on_last s from ballot vote = on_last_of s.hand s from ballot vote
 
--- BEGINBALLOT(b, d), step 4: where b is the promise and the vote, if any, is of a smaller ballot, the vote is now (b, d), and
--- Voted(b) tells it
+-- BEGINBALLOT(b, d), step 4: if b is the promise and the vote, if any, is of a smaller ballot, vote (b, d) and report it by
+-- Voted(b)
 
 abbrev pub is_older : (vote : Option Vote) (ballot : ℕ) → Bool
 is_older None ballot = true
@@ -113,21 +113,21 @@ on_begin s ballot decree =
 
 -- VOTED(b) from a core, step 5
 
--- the decree that it counts for: the one that is begun, where the hand is of this ballot, and the sender is a voter that
--- did not count yet
+-- the decree that it counts for: the decree begun, if the ballot is in hand and the sender is a voter that has not counted
+-- yet
 abbrev pub voted_for : (voters : List ℕ) → Option Hand → (from ballot : ℕ) → Option (List ℕ)
 voted_for voters None from ballot = None
 voted_for voters (Some h) from ballot = if (h.ballot == ballot) && (is_voter voters from && not (is_flagged h.voted from)) then h.decree else None
 
--- the sender counts
+-- count the sender
 abbrev pub with_voted : Hand → (from : ℕ) → Hand
 with_voted h from = record h { voted = slice_set h.voted from true }
 
--- whether a majority counts after a step, and did not before
+-- whether the step completes a majority
 abbrev pub completes : (voters : List ℕ) (before after : Hand) → Bool
 completes voters before after = is_majority voters after.voted && not (is_majority voters before.voted)
 
--- where that is so, the decree is held if nothing was, and is the answer: Success(decree) is to go out
+-- if so, hold the decree unless one is held, and return it: send Success(decree)
 abbrev pub voted_added : VoteState → (before after : Hand) (decree : List ℕ) → VoteState × Took
 voted_added s before after decree =
     if completes s.voters before after
@@ -145,7 +145,7 @@ on_voted_of (Some h) s from ballot = on_voted_for (voted_for s.voters (Some h) f
 unfoldable pub on_voted : VoteState → (from ballot : ℕ) → VoteState × Took
 on_voted s from ballot = on_voted_of s.hand s from ballot
 
--- SUCCESS(d), step 6: where nothing is held, d is held
+-- SUCCESS(d), step 6: hold d unless a decree is held
 
 abbrev pub on_success_of : (held : Option (List ℕ)) → VoteState → (decree : List ℕ) → VoteState × Bool
 on_success_of None s decree = (record s { held = Some decree }, true)
@@ -154,12 +154,12 @@ on_success_of (Some held) s decree = (s, false)
 unfoldable pub on_success : VoteState → (decree : List ℕ) → VoteState × Bool
 on_success s decree = on_success_of s.held s decree
 
--- RESTART: the ballot in hand is forgotten, and all else stays
+-- RESTART: forget the ballot in hand; nothing else changes
 
 abbrev pub restarted : VoteState → VoteState
 restarted s = record s { hand = None }
 
--- WHAT IS SENT
+-- MESSAGES SENT
 
 abbrev pub promise_told : Option LastVote → Option SynodMessage
 promise_told None = None
@@ -185,12 +185,12 @@ ballot_told Unsealed = None
 ballot_told Last = None
 ballot_told (Next ballot) = Some (message.NextBallot ballot)
 
--- the command to tell what is held
+-- the command to send the decree that is held
 abbrev pub held_told : (held : Option (List ℕ)) → Option SynodMessage
 held_told None = None
 held_told (Some held) = Some (message.Success held)
 
--- a delivered message by its step: the state after it, and what is sent. LastVote and Voted go back to the sender,
+-- the step of a delivered message: the new state, and the message to send. LastVote and Voted go back to the sender,
 -- BeginBallot to all voters, Success to all cores
 unfoldable pub receive : VoteState → (from : ℕ) → SynodMessage → VoteState × Option SynodMessage
 receive s from (message.NextBallot b) = ((on_next s b).0, promise_told (on_next s b).1)
@@ -199,7 +199,7 @@ receive s from (message.BeginBallot b d) = ((on_begin s b d).0, vote_told b (on_
 receive s from (message.Voted b) = ((on_voted s from b).0, decree_told (on_voted s from b).1)
 receive s from (message.Success d) = ((on_success s d).0, None)
 
--- the ballot that a message names, if any, is one
+-- the ballot that a message names, if any, is a valid ballot number
 abbrev pub OfBallot : SynodMessage → Type 0
 OfBallot (message.NextBallot b) = IsBallot b
 OfBallot (message.LastVote l) = IsBallot l.ballot

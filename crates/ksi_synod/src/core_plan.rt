@@ -46,7 +46,7 @@ impl Model for CorePlan {
 }
 
 impl CorePlan {
-    /// The plan of so many cores from a start on, all of which vote.
+    /// The plan of this many cores from a start on, all of which vote.
     pub fn new(cores: u8, start: u64) -> Self
         requires some { 1 ≤ cores }
         requires few { cores ≤ 9 }
@@ -101,7 +101,7 @@ impl CorePlan {
         Voters::all(self.cores)
     }
 
-    /// Whether a pair of the second may stand behind the others: there are fewer than 256, and their seconds are below it.
+    /// Whether a pair of the second may follow the others: there are fewer than 256, and their seconds are below it.
     pub fn has_room(&self, second: u64) -> bool
         ensures { result ≡ has_room self.now second }
     {

@@ -148,7 +148,7 @@ impl Instance {
         self.candidate
     }
 
-    /// Sets the candidate: the decree that this core begins where no vote was told to it. It is set once.
+    /// Sets the candidate: the decree that this core begins if no LastVote had a vote. It is set once.
     #[tactic(auto, unfolding(crate::specs::Instance::state_of))]
     pub fn candidate(&mut self, imprint: Imprint)
         requires unsealed { IsNone self.old.candidate }

@@ -1,11 +1,11 @@
-//! The vote of the cores on one second: Lamport's Synod, or Paxos ("The Part-Time Parliament", 1998, section 2.3), whose
-//! decree is the root of the second.
+//! The vote of the cores on the root of one second: Lamport's Synod, also known as Paxos ("The Part-Time Parliament", 1998,
+//! section 2.3). The decree is the root.
 //!
-//! An [`Instance`] is one core's part. Each call takes one step, by one of the five messages or at a command, and answers
-//! what came of it; which call takes a message, what is to be sent and what to be stored is said where a core takes it
-//! (`ksi_corenode`). Nothing is sent, stored or timed here, and no call takes memory. A contract sees an `Instance` as a
-//! `VoteState`, and each call's answer and state are those of its row in `specs/Rows`. The layers above rely on these rows and on the
-//! laws of [`laws`], over every history of steps: agreement, validity and stability.
+//! An [`Instance`] is one core's part in the vote. Each call takes one step of the protocol, for one of the five messages or
+//! for a command, and returns the result. Nothing is sent, stored or timed here, and no call allocates; `ksi_corenode` decides
+//! which call a message needs, what to send and what to store. Contracts describe an `Instance` as a `VoteState`, and each
+//! call's answer and new state are those of its row in `specs/Rows`. The layers above rely on these rows and on [`laws`], which
+//! hold for every history of steps: agreement, validity and stability.
 //!
 //! ```text
 //! let mut core = Instance::new(0, Voters::all(3));

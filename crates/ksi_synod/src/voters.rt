@@ -28,7 +28,7 @@ impl Model for Voters {
 }
 
 impl Voters {
-    /// The cores 0 up to the last of so many members.
+    /// The cores from 0 on, this many.
     pub fn all(members: u8) -> Self
         requires { members ≤ 9 }
         ensures { result ≡ cores_below members }

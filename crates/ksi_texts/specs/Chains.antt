@@ -13,7 +13,7 @@ use Rattle.ksi_verifier.specs.Chains.{PlainChain}
 use Rattle.ksi_texts.specs.Names.{name_in}
 use Rattle.ksi_texts.specs.Words.{quoted_text, second_text, short_text}
 
--- where a node stands in a join
+-- the side of a node in a join
 abbrev pub side_word : Side → List ℕ
 side_word Left = codes "left of"
 side_word Right = codes "right of"
@@ -25,12 +25,12 @@ abbrev pub raw_words : Option (List ℕ) → (bytes : List ℕ) → List (List �
 raw_words (Some name) bytes = codes "name" ∷ quoted_text name ∷ []
 raw_words None bytes = codes "bytes" ∷ quoted_text bytes ∷ []
 
--- what stands beside a link
+-- the sibling of a link
 abbrev pub beside_words : PlainLink → List (List ℕ)
 beside_words link =
     if link.raw then raw_words (name_in link.sibling) link.sibling else codes "hash" ∷ short_text link.sibling ∷ []
 
--- the link at a place: its side, what stands beside it, and the node that it leads to
+-- the link at a place: its side, its sibling, and the node that it leads to
 abbrev pub row_beside : ℕ → Side → List (List ℕ) → Node → List (List ℕ)
 row_beside place side beside node =
     codes "  link" ∷ decimal place ∷ side_word side ∷ (beside ++ codes "makes" ∷ short_text node.imprint ∷ codes "at level" ∷ decimal node.level ∷ [])
@@ -55,7 +55,7 @@ link_rows place node (link ∷ links) =
 abbrev pub input_at : ℕ → PlainChain → Node
 input_at level chain = record { imprint = chain.input; level = level }
 
--- chain k with so many links, of a second
+-- chain k with this many links, of a second
 abbrev pub head_row : (k links time : ℕ) → List (List ℕ)
 head_row k links time = codes "chain" ∷ decimal k ∷ codes "with" ∷ decimal links ∷ codes "links, of second" ∷ second_text time ∷ []
 

@@ -1,4 +1,3 @@
-pub mod Dates
 pub mod Words
 pub mod Names
 pub mod Chains

@@ -10,7 +10,7 @@ is_named element =
 abbrev pub name_inside : List ℕ → Option (List ℕ)
 name_inside element = if is_named element then Some (take (length element - 2) (drop 1 element)) else None
 
--- behind the padding stands the kind of the name's element
+-- the kind of the name's element follows the padding
 abbrev pub name_in : List ℕ → Option (List ℕ)
 name_in meta =
     if starts_with nat_eq meta (126 ∷ 1 ∷ 1 ∷ 1 ∷ []) then name_inside (drop 4 meta)

@@ -12,7 +12,7 @@ use Rattle.ksi_texts.specs.Words.{second_text}
 abbrev pub document_row : PlainChain → List (List ℕ)
 document_row lowest = codes "  of the document with the SHA-256" ∷ hex_of lowest.input ∷ []
 
--- a signature of so many bytes
+-- a signature of this many bytes
 abbrev pub signature_rows : (size : ℕ) → Signature → List (List (List ℕ))
 signature_rows size signature =
     (codes "signature of" ∷ decimal size ∷ codes "bytes" ∷ [])

@@ -3,7 +3,7 @@ use Rattle.std.specs.Prelude.{ℕ, ◌&&◌, ◌||◌, ◌==◌, not, nat_le, na
 use Rattle.std.specs.Fmt.{decimal}
 use Rattle.hex.specs.Hex.{encode_lower}
 use Rattle.ksi_schedule.specs.Printed.{hex_of}
-use Rattle.ksi_texts.specs.Dates.{date_text}
+use Rattle.ksi_dates.specs.Dates.{date_text}
 use Rattle.ksi_texts.specs.declared.word.Word.{Word}
 use Rattle.ksi_texts.specs.declared.word.Word.TheVariants as words
 
@@ -25,7 +25,7 @@ is_mark byte = byte == 34 || byte == 38 || byte == 39 || byte == 60 || byte == 6
 abbrev pub is_plain : ℕ → Bool
 is_plain byte = nat_le 32 byte && nat_le byte 126 && not (is_mark byte)
 
--- any other byte is told by its two hex digits behind \x
+-- any other byte is printed as \x and its two hex digits
 abbrev pub escape : ℕ → List ℕ
 escape byte = if is_plain byte then byte ∷ [] else codes "\\x" ++ encode_lower (byte ∷ [])
 
@@ -33,7 +33,7 @@ abbrev pub escaped : List ℕ → List ℕ
 escaped [] = []
 escaped (byte ∷ bytes) = escape byte ++ escaped bytes
 
--- how many bytes are told of any
+-- the most bytes that are quoted of any text
 abbrev pub most_quoted : ℕ
 most_quoted = 64
 

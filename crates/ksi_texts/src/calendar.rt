@@ -13,7 +13,7 @@ use ksi_signature::{CalendarView, RecordView};
 use ksi_split::ShapeFault;
 use std::slice;
 
-/// The rows of a calendar chain, or one row where there is none.
+/// The rows of a calendar chain, or one row if there is none.
 pub(crate) fn put_calendar(
     text: &mut Vec<u8>,
     calendar: &Option<CalendarView<'_>>,
@@ -104,7 +104,7 @@ fn put_end(
     }
 }
 
-/// The rows of a publication record, or one row where there is none.
+/// The rows of a publication record, or one row if there is none.
 pub(crate) fn put_record(
     text: &mut Vec<u8>,
     published: &Option<RecordView<'_>>,

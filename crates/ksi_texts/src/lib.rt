@@ -1,9 +1,10 @@
 //! Texts in words and dates, of signatures and of publications files, and the printer of any other row of words.
 //!
-//! A row is words parted by single spaces, and a line feed. What anyone may have chosen stands in quotes, as printable ASCII. A
-//! second of Unix time stands with its date. The layer above may rely on this: [`put`] puts exactly the texts of its words
-//! behind a text; [`put_signature_of`] puts the text of the signature that bytes are, or gives their first fault; and
-//! [`put_publications_of`] does so for a publications file. Dates are those of the Gregorian calendar, by its count of days.
+//! A row is words separated by single spaces, and a line feed. Text that anyone may have chosen is quoted, as printable
+//! ASCII. A second of Unix time is printed with its date. The layers above may rely on this: [`put`] appends exactly the
+//! texts of its words to a text; [`put_signature_of`] appends the text of the signature that bytes are, or returns their
+//! first fault; and [`put_publications_of`] does so for a publications file. Dates are those
+//! of `ksi_dates`.
 //!
 //! ```text
 //! let mut text = Vec::new(alloc);

@@ -5,11 +5,12 @@ ghost use Rattle.hex.specs.Hex.{encode_lower};
 ghost use Rattle.ksi_schedule.specs.Printed.{hex_of, line_of, spaced};
 ghost use Rattle.ksi_texts.specs.Words.{pasted, short_text, word_text};
 
-use crate::dates::{push_date, push_second};
+use crate::dates::push_second;
 use crate::names::behind;
 use crate::quoting::push_quoted;
 use crate::word::Word;
 use itoa::Buffer;
+use ksi_dates::push_date;
 use ksi_imprint::{Imprint, NoMemory};
 
 /// A row: its words, parted by spaces, and a line feed.

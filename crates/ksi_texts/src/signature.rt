@@ -37,7 +37,7 @@ pub fn put_signature_of(
     }
 }
 
-/// The text of a signature of so many bytes.
+/// The text of a signature of this many bytes.
 #[tactic(auto, unfolding(crate::specs::Text::signature_text))]
 pub fn put_signature(
     text: &mut Vec<u8>,

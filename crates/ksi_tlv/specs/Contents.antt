@@ -1,4 +1,4 @@
--- What the bodies of elements say, and what is wrong with those that say nothing.
+-- The values in the bodies of elements, and the faults of bodies without a value.
 use Rattle.std.specs.Prelude.{ℕ, ◌^◌, nat_lt, nat_le, ◌==◌, ◌&&◌, List, length, Result, Ok, Err, if◌then◌else◌}
 use Rattle.ksi_imprint.specs.declared.fault.ImprintFault.{ImprintFault}
 use Rattle.ksi_imprint.specs.Reading.{imprint_at}
@@ -9,7 +9,7 @@ use Rattle.ksi_tlv.specs.declared.grammar.fault.ElementFault.TheVariants as faul
 use Rattle.ksi_tlv.specs.Table.{Verdict}
 use Rattle.ksi_tlv.specs.Containing.{◌>>=◌}
 
--- the fault alone
+-- the fault, without the value
 abbrev pub passes : {A : Type 0} → Result A ElementFault → Verdict
 passes answer = answer >>= λ _. Ok tt
 
@@ -25,7 +25,7 @@ time_in at = number_in at >>= λ n. if nat_lt n (2 ^ 63) then Ok n else Err (fau
 unfoldable pub level_in : PlacedTlv → Result ℕ ElementFault
 level_in at = number_in at >>= λ n. if nat_lt n 256 then Ok n else Err (faults.Number at.place)
 
--- the algorithm is that of SHA-256, 1
+-- the algorithm is 1, SHA-256
 unfoldable pub algorithm_in : PlacedTlv → Result ℕ ElementFault
 algorithm_in at = number_in at >>= λ n. if n == 1 then Ok n else Err (faults.Algorithm n)
 
@@ -37,6 +37,6 @@ imprint_or place (Err fault) = Err (faults.Imprint place)
 unfoldable pub imprint_in : PlacedTlv → Result (List ℕ) ElementFault
 imprint_in at = imprint_or at.place (imprint_at at.element.body)
 
--- a sibling that is no imprint has 1 to 4,096 bytes
+-- a sibling that is not an imprint has 1 to 4,096 bytes
 unfoldable pub raw_in : PlacedTlv → Verdict
 raw_in at = if nat_lt 0 (length at.element.body) && nat_le (length at.element.body) 4096 then Ok tt else Err (faults.Sibling at.place)

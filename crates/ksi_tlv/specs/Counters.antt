@@ -1,4 +1,4 @@
--- Counting as the code does it: one counter for each slot, which stays at 65,535.
+-- Counting as the code does it: one counter for each slot, which stops at 65,535.
 use Rattle.std.specs.Prelude.{◌≡◌, ℕ, suc, ◌+◌, min, List, [], ◌∷◌, length, slice_index, slice_set, Option, Some, None, Result, Ok, Err, if◌then◌else◌}
 use Rattle.ksi_tlv.specs.Walking.{PlacedTlv}
 use Rattle.ksi_tlv.specs.declared.grammar.fault.ElementFault.{ElementFault}
@@ -7,7 +7,7 @@ use Rattle.ksi_tlv.specs.declared.grammar.rule.Rule.{Rule}
 use Rattle.ksi_tlv.specs.Table.{Verdict, Slot, Table, is_among, count}
 use Rattle.ksi_tlv.specs.Containing.{◌>>=◌, is_full, over_fault, or_lack}
 
--- what the slots from a number on say of a kind
+-- the rule for a kind, among the slots from number i on
 abbrev pub rule_from : ℕ → List Slot → ℕ → Option Rule
 rule_from i [] kind = None
 rule_from i (slot ∷ slots) kind = if is_among kind slot.kinds then Some (record { slot = i; most = slot.most; over = slot.over }) else rule_from (suc i) slots kind
@@ -15,7 +15,7 @@ rule_from i (slot ∷ slots) kind = if is_among kind slot.kinds then Some (recor
 abbrev pub rule_of : Table → ℕ → Option Rule
 rule_of t kind = rule_from 0 t.slots kind
 
--- what is missing by the counters of the slots from a number on
+-- the first missing element, by the counters of the slots from number i on
 abbrev pub lack_from : ℕ → List Slot → List ℕ → ℕ → Verdict
 lack_from i [] seen place = Ok tt
 lack_from i (slot ∷ slots) seen place = or_lack slot.lack (slice_index seen i) place (lack_from (suc i) slots seen place)
@@ -37,7 +37,7 @@ rule_step t seen at (Some rule) =
     if is_full rule.most (slice_index seen rule.slot) then Err (over_fault rule.over at.element.kind at.place)
     else t.content at >>= λ _. Ok (counted seen rule.slot)
 
--- the counters behind an element, or what is wrong with it
+-- the counters after an element, or its fault
 unfoldable pub step : Table → List ℕ → PlacedTlv → Result (List ℕ) ElementFault
 step t seen at =
     if is_among at.element.kind t.refused then Err (faults.RefusedElement at.element.kind at.place)
@@ -47,7 +47,7 @@ abbrev pub IsStep : Table → List ℕ → PlacedTlv → List ℕ → Verdict �
 IsStep t old at new (Ok u) = step t old at ≡ Ok new
 IsStep t old at new (Err fault) = step t old at ≡ Err fault
 
--- the counters of slots from a number on say how many elements came
+-- the counters of the slots from number i on are the numbers of elements read
 abbrev pub CountFrom : ℕ → List Slot → List ℕ → List PlacedTlv → Type 0
 CountFrom i [] seen es = Unit {0}
 CountFrom i (slot ∷ slots) seen es = (slice_index seen i ≡ min (count slot.kinds es) 65535) × CountFrom (suc i) slots seen es

@@ -1,10 +1,10 @@
--- The elements inside an element, each in its place.
+-- The elements inside an element, in a fixed order.
 use Rattle.std.specs.Prelude.{ℕ, ◌+◌, ◌==◌, [], ◌∷◌, length, Result, Ok, Err, if◌then◌else◌}
 use Rattle.ksi_tlv.specs.Walking.{PlacedTlv, Items, elements}
 use Rattle.ksi_tlv.specs.declared.order.fault.OrderFault.{OrderFault}
 use Rattle.ksi_tlv.specs.declared.order.fault.OrderFault.TheVariants as faults
 
--- what is still to be read in an element, and where it ends
+-- the unread rest of an element, and where it ends
 pub record Inside : Type 0 where
   pub end : ℕ
   pub items : Items
@@ -20,7 +20,7 @@ next_field kind end [] = Err (faults.Ends end)
 next_field kind end (Err cut ∷ items) = Err (faults.Tlv cut.place)
 next_field kind end (Ok at ∷ items) = of_kind kind end items at
 
--- the next element, which must be of this kind, and what is then left
+-- the next element, which must be of this kind, and the rest after it
 unfoldable pub field : ℕ → Inside → Result (PlacedTlv × Inside) OrderFault
 field kind i = next_field kind i.end i.items
 
@@ -29,6 +29,6 @@ none_left [] = Ok tt
 none_left (Err cut ∷ items) = Err (faults.Tlv cut.place)
 none_left (Ok at ∷ items) = Err (faults.Order at.place)
 
--- nothing may stand behind the last
+-- nothing may follow the last element
 unfoldable pub done : Inside → Result (Unit {0}) OrderFault
 done i = none_left i.items

@@ -1,12 +1,12 @@
--- Files of elements in a stated order: which bytes are which value, and the first fault of bytes that are none.
+-- Files of elements in a fixed order: which bytes encode which value, and the first fault of all other bytes.
 use Rattle.std.specs.Prelude.{◌≡◌, ℕ, ◌+◌, ◌⊎◌, List, ◌++◌, length, Result, Ok, Err}
 use Rattle.ksi_tlv.specs.Walking.{PlacedTlv, Items, elements}
 use Rattle.ksi_tlv.specs.declared.order.fault.OrderFault.{OrderFault}
 use Rattle.ksi_tlv.specs.Order.{Order}
 use Rattle.ksi_tlv.specs.Sequence.{IsWhole, IsFirstFault, IsWanting}
 
--- A format: the magic that a file begins with, what bytes that begin otherwise are called, the order of the elements behind
--- the magic, what is said before the first of them, and the value of what they say.
+-- A format: the magic that a file begins with, the fault of bytes that begin otherwise, the order of the elements after
+-- the magic, the state before the first of them, and the value of the state after the last.
 pub record Format (S F A : Type 0) : Type 0 where
   pub magic : List ℕ
   pub other : F
@@ -14,14 +14,14 @@ pub record Format (S F A : Type 0) : Type 0 where
   pub start : S
   pub value : S → A
 
--- the elements of what stands behind the magic, and where they end
+-- the elements after the magic, and where they end
 abbrev pub behind : {S F A : Type 0} → Format S F A → List ℕ → Items
 behind f rest = elements (length f.magic) rest
 
 abbrev pub end_of : {S F A : Type 0} → Format S F A → List ℕ → ℕ
 end_of f rest = length f.magic + length rest
 
--- behind the magic stand whole elements in their order, which say this value
+-- after the magic come whole elements in their order, and they encode this value
 pub record IsFile {S F A : Type 0} (f : Format S F A) (bytes : List ℕ) (value : A) : Type 0 where
   pub rest : List ℕ
   pub begins : bytes ≡ f.magic ++ rest
@@ -37,7 +37,7 @@ pub record IsOtherFile {S F A : Type 0} (f : Format S F A) (bytes : List ℕ) (f
   pub begins : IsOther f bytes
   pub named : fault ≡ f.other
 
--- the first fault of the elements behind the magic
+-- the first fault of the elements after the magic
 pub record IsFaultInside {S F A : Type 0} (f : Format S F A) (bytes : List ℕ) (fault : F) : Type 0 where
   pub rest : List ℕ
   pub begins : bytes ≡ f.magic ++ rest
@@ -46,7 +46,7 @@ pub record IsFaultInside {S F A : Type 0} (f : Format S F A) (bytes : List ℕ) 
 abbrev pub IsFileFault : {S F A : Type 0} → Format S F A → List ℕ → F → Type 0
 IsFileFault f bytes fault = IsOtherFile f bytes fault ⊎ IsFaultInside f bytes fault
 
--- memory was wanting for an element of which this is known, up to which there is no fault
+-- the call ran out of memory at an element for which `wants` holds, and there is no fault up to it
 pub record IsWantingInside {S F A : Type 0} (f : Format S F A) (wants : S → PlacedTlv → Type 0) (bytes : List ℕ) : Type 0 where
   pub rest : List ℕ
   pub begins : bytes ≡ f.magic ++ rest

@@ -1,4 +1,4 @@
--- The elements that an element holds, where these are all whole.
+-- The elements inside an element, if all of them are complete.
 use Rattle.std.specs.Prelude.{ℕ, ◌==◌, List, [], ◌∷◌, Option, Some, None, Ok, Err, if◌then◌else◌}
 use Rattle.ksi_tlv.specs.Walking.{PlacedTlv, Items, elements}
 

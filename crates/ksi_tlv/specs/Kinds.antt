@@ -5,7 +5,7 @@ use Rattle.ksi_tlv.specs.Walking.{PlacedTlv, elements, items_of}
 abbrev pub kinds_of : List PlacedTlv → List ℕ
 kinds_of es = map (λ at. at.element.kind) es
 
--- behind the magic stand whole elements, and their kinds are these, one for one
+-- after the magic come whole elements, and these are their kinds, in order
 pub record HasKinds (magic kinds bytes : List ℕ) : Type 0 where
   pub rest : List ℕ
   pub begins : bytes ≡ magic ++ rest

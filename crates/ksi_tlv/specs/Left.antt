@@ -1,4 +1,4 @@
--- What is left of an element, as the code has it.
+-- The unread rest of an element, as the code keeps it.
 use Rattle.std.specs.Prelude.{◌≡◌, ℕ, Result, Ok, Err}
 use Rattle.ksi_tlv.specs.Views.{view_placed, rest}
 use Rattle.ksi_tlv.specs.declared.walk.Placed as code

@@ -2,7 +2,7 @@
 use Rattle.std.specs.Int.{w64, to_be_bytes}
 use Rattle.std.specs.Prelude.{ℕ, zero, suc, ◌+◌, ◌*◌, ◌^◌, List, [], ◌∷◌, length}
 
--- the value of bytes: each is worth 256 times the one behind it
+-- the value of bytes in big-endian order
 abbrev pub number_of : List ℕ → ℕ
 number_of [] = 0
 number_of (b ∷ bytes) = b * 256 ^ length bytes + number_of bytes
@@ -13,6 +13,6 @@ without_zeros [] = []
 without_zeros (zero ∷ bytes) = without_zeros bytes
 without_zeros (suc b ∷ bytes) = suc b ∷ bytes
 
--- the fewest bytes of a number below 2^64, none for zero
+-- the shortest big-endian form of a number below 2^64, empty for zero
 unfoldable pub numeral : ℕ → List ℕ
 numeral n = without_zeros (to_be_bytes w64 n)

@@ -1,4 +1,4 @@
--- Published data, a time and the root hash of the calendar tree that was published for it, and records of it.
+-- Published data, which is a time and the root hash of the calendar tree that was published for it, and its records.
 use Rattle.std.specs.Prelude.{ℕ, ◌==◌, List, [], ◌∷◌, Option, Ok, Some, None, if◌then◌else◌}
 use Rattle.ksi_imprint.specs.Imprints.{zero_imprint}
 use Rattle.ksi_tlv.specs.Spelling.{Tlv, plain}
@@ -25,7 +25,7 @@ abbrev pub imprint_or_zero : Option PlacedTlv → List ℕ
 imprint_or_zero None = zero_imprint
 imprint_or_zero (Some at) = at.element.body
 
--- the time and the hash, both of which published data has
+-- the time and the hash of published data
 unfoldable pub published_in : PlacedTlv → ℕ × List ℕ
 published_in at = (number_or_zero (first_of 2 (inner_elements at)), imprint_or_zero (first_of 4 (inner_elements at)))
 
@@ -36,11 +36,11 @@ published_elements time hash = plain 2 (numeral time) ∷ plain 4 hash ∷ []
 -- ---- records
 
 abbrev pub record_content : PlacedTlv → Verdict
-record_content at = if at.element.kind == 16 then inner_verdict published_table at else Ok tt
+record_content at = if at.element.kind == 0x10 then inner_verdict published_table at else Ok tt
 
 -- 0x10 published data; 0x09 references and 0x0A repository addresses, of any content
 abbrev pub record_table : Table
-record_table = record { slots = exactly_once 16 ∷ any_number 9 ∷ any_number 10 ∷ []; refused = []; content = record_content }
+record_table = record { slots = exactly_once 0x10 ∷ any_number 0x09 ∷ any_number 0x0a ∷ []; refused = []; content = record_content }
 
 abbrev pub published_or_zero : Option PlacedTlv → ℕ × List ℕ
 published_or_zero None = (0, zero_imprint)
@@ -48,8 +48,8 @@ published_or_zero (Some at) = published_in at
 
 -- the time and the hash of the published data, which a record has
 unfoldable pub recorded_in : PlacedTlv → ℕ × List ℕ
-recorded_in at = published_or_zero (first_of 16 (inner_elements at))
+recorded_in at = published_or_zero (first_of 0x10 (inner_elements at))
 
 -- as it is written, without references
 abbrev pub record_elements : ℕ → List ℕ → List Tlv
-record_elements time hash = plain 16 (texts (published_elements time hash)) ∷ []
+record_elements time hash = plain 0x10 (texts (published_elements time hash)) ∷ []

@@ -1,4 +1,4 @@
--- The value that bytes are, or their first fault. The law `file_is_read` says that these are those of `Format`.
+-- The value that bytes encode, or their first fault. The law `file_is_read` says that these are the ones in `Format`.
 use Rattle.std.specs.Prelude.{List, ℕ, length, take, drop, Result, Ok, Err, if◌then◌else◌}
 use Rattle.std.specs.Str.{bytes_eq}
 use Rattle.ksi_tlv.specs.Order.{walked}
@@ -8,7 +8,7 @@ abbrev pub value_said : {S F A : Type 0} → (S → A) → Result S F → Result
 value_said value (Ok said) = Ok (value said)
 value_said value (Err fault) = Err fault
 
--- what the elements behind the magic say
+-- the value of the elements after the magic
 abbrev pub read_behind : {S F A : Type 0} → Format S F A → List ℕ → Result A F
 read_behind f rest = value_said f.value (walked f.order (end_of f rest) (behind f rest) f.start)
 

@@ -1,7 +1,7 @@
--- How an element is spelled as bytes.
+-- The encoding of an element as bytes.
 use Rattle.std.specs.Prelude.{◌≡◌, ℕ, ◌+◌, ◌/◌, ◌%◌, ◌<◌, ◌≤◌, ◌&&◌, ◌⊎◌, nat_lt, Bool, false, List, ◌∷◌, length, take, All, if◌then◌else◌}
 
--- an element: what it is, its two flags, and the bytes that it holds
+-- an element: its kind, its two flags, and its body
 pub record Tlv : Type 0 where
   pub kind : ℕ
   pub non_critical : Bool
@@ -16,9 +16,9 @@ element_of kind non_critical forward body = record { kind = kind; non_critical =
 abbrev pub plain : ℕ → List ℕ → Tlv
 plain kind body = element_of kind false false body
 
--- bit 0x40 where a reader may pass over it, bit 0x20 where what is passed over is passed on
+-- bit 0x40: a reader that does not know the kind may skip the element; bit 0x20: it then copies the element unchanged
 abbrev pub flags : Tlv → ℕ
-flags e = (if e.non_critical then 64 else 0) + (if e.forward then 32 else 0)
+flags e = (if e.non_critical then 0x40 else 0) + (if e.forward then 0x20 else 0)
 
 -- the short form: a byte of flags and kind, a byte of length, the body
 abbrev pub short_form : Tlv → List ℕ
@@ -31,14 +31,14 @@ pub record FitsShort (e : Tlv) : Type 0 where
 
 -- the long form: bit 0x80 and the flags with the kind in two bytes, two bytes of length, the body
 abbrev pub long_form : Tlv → List ℕ
-long_form e = (128 + flags e + e.kind / 256) ∷ (e.kind % 256) ∷ (length e.body / 256) ∷ (length e.body % 256) ∷ e.body
+long_form e = (0x80 + flags e + e.kind / 256) ∷ (e.kind % 256) ∷ (length e.body / 256) ∷ (length e.body % 256) ∷ e.body
 
--- the long form can hold the element, as it can each that has a spelling
+-- the long form can hold the element; an element that does not fit it has no encoding
 pub record FitsLong (e : Tlv) : Type 0 where
   pub kind : e.kind < 8192
   pub body : length e.body < 65536
 
--- the bytes are one of the two spellings of the element
+-- the bytes are one of the two encodings of the element
 abbrev pub Spells : Tlv → List ℕ → Type 0
 Spells e bytes = (FitsShort e × (bytes ≡ short_form e)) ⊎ (FitsLong e × (bytes ≡ long_form e))
 
@@ -46,11 +46,11 @@ Spells e bytes = (FitsShort e × (bytes ≡ short_form e)) ⊎ (FitsLong e × (b
 abbrev pub AreBytes : List ℕ → Type 0
 AreBytes bytes = All (λ b. b < 256) bytes
 
--- the first n bytes spell the element
+-- the first n bytes encode the element
 pub record IsFront (bytes : List ℕ) (e : Tlv) (n : ℕ) : Type 0 where
   pub within : n ≤ length bytes
   pub spelled : Spells e (take n bytes)
 
--- the spelling that is written: the short form where it can hold the element
+-- the encoding that is written: the short form if it can hold the element
 abbrev pub canonical : Tlv → List ℕ
 canonical e = if nat_lt e.kind 32 && nat_lt (length e.body) 256 then short_form e else long_form e

@@ -1,4 +1,4 @@
--- The table of a container: which elements may stand in it.
+-- The table of a container: which elements it may have.
 use Rattle.std.specs.Prelude.{ℕ, ◌+◌, ◌==◌, ◌||◌, ◌&&◌, not, nat_le, Bool, true, false, List, [], ◌∷◌, length, Option, Some, None, Result, if◌then◌else◌}
 use Rattle.ksi_tlv.specs.Walking.{PlacedTlv}
 use Rattle.ksi_tlv.specs.declared.grammar.fault.ElementFault.{ElementFault}
@@ -6,20 +6,20 @@ use Rattle.ksi_tlv.specs.declared.grammar.fault.ElementFault.TheVariants as faul
 use Rattle.ksi_tlv.specs.declared.grammar.rule.Over.{Over}
 use Rattle.ksi_tlv.specs.declared.grammar.rule.Over.TheVariants as overs
 
--- nothing is wrong, or this is
+-- no fault, or this one
 abbrev pub Verdict : Type 0
 Verdict = Result (Unit {0}) ElementFault
 
--- Kinds that are counted together: how many elements of these kinds may stand, where there is a limit; what one more
--- is; and, where one must stand, the fault of a container at a place that ends without.
+-- Kinds that are counted together: the limit on the number of their elements, if there is one; the fault of an element
+-- past it; and, if one is required, the fault of a container at a place that has none.
 pub record Slot : Type 0 where
   pub kinds : List ℕ
   pub most : Option ℕ
   pub over : Over
   pub lack : Option (ℕ → ElementFault)
 
--- A container's known kinds by slots, the kinds that are refused by name, and what is wrong with what a known element
--- holds.
+-- A container's known kinds by slots, the kinds that are refused by name, and the fault in the content of a known
+-- element.
 pub record Table : Type 0 where
   pub slots : List Slot
   pub refused : List ℕ

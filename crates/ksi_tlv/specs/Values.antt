@@ -1,4 +1,4 @@
--- What the bodies of elements say.
+-- The values in the bodies of elements.
 use Rattle.std.specs.Prelude.{ℕ, List, Result, Ok, Err}
 use Rattle.ksi_tlv.specs.Walking.{PlacedTlv}
 use Rattle.ksi_tlv.specs.declared.grammar.fault.ElementFault.{ElementFault}

@@ -1,4 +1,4 @@
--- What the readers give, seen as the definitions' elements.
+-- The results of the readers, as elements of the definitions.
 use Rattle.std.specs.Prelude.{ℕ, Result, Ok, Err}
 use Rattle.ksi_tlv.specs.Spelling.{Tlv}
 use Rattle.ksi_tlv.specs.Front.{Front}

@@ -10,13 +10,13 @@ pub record PlacedTlv : Type 0 where
   pub inside : ℕ
   pub element : Tlv
 
--- an element that is cut off: its place, how many bytes it would take, and how many stand
+-- an element that is cut off: its place, how many bytes it would take, and how many there are
 pub record Cut : Type 0 where
   pub place : ℕ
   pub need : ℕ
   pub have : ℕ
 
--- what a walk gives, in order
+-- the items of a walk, in order
 abbrev pub Items : Type 0
 Items = List (Result PlacedTlv Cut)
 
@@ -35,18 +35,18 @@ items_within zero place bytes = []
 items_within (suc most) place [] = []
 items_within (suc most) place (b ∷ bytes) = items_after (items_within most) place (b ∷ bytes) (element_at (b ∷ bytes))
 
--- The elements of bytes that stand at a place, and last the one that is cut off. There are no more than bytes.
+-- The elements of bytes at a place, and last the one that is cut off. There are no more elements than bytes.
 unfoldable pub elements : ℕ → List ℕ → Items
 elements place bytes = items_within (length bytes) place bytes
 
--- ---- as they stand
+-- ---- as they are
 
--- elements, each with the text that spells it: the texts one after the other
+-- elements, each with its encoding: the encodings one after the other
 abbrev pub joined : List (Tlv × List ℕ) → List ℕ
 joined [] = []
 joined (part ∷ parts) = part.1 ++ joined parts
 
--- the elements, each where its text then stands
+-- the elements, each with the place of its text
 abbrev pub laid : ℕ → List (Tlv × List ℕ) → List PlacedTlv
 laid place [] = []
 laid place (part ∷ parts) = placed_at place part.0 (length part.1) ∷ laid (place + length part.1) parts
@@ -55,18 +55,17 @@ abbrev pub items_of : List PlacedTlv → Items
 items_of [] = []
 items_of (at ∷ es) = Ok at ∷ items_of es
 
--- no spelling of any element begins the bytes
+-- no encoding of an element is a prefix of the bytes
 abbrev pub BeginsNone : List ℕ → Type 0
 BeginsNone bytes = (e : Tlv) (text rest : List ℕ) → Spells e text → bytes ≡ text ++ rest → ⊥
 
--- nothing where nothing is left, else an element that is cut off
+-- nothing if no bytes are left, else an element that is cut off
 abbrev pub end_at : ℕ → List ℕ → Items
 end_at place [] = []
 end_at place (b ∷ left) = Err (record { place = place; need = size_at (b ∷ left); have = length (b ∷ left) }) ∷ []
 
--- The items are a reading of the bytes that stand at a place: the bytes are the texts of elements, one after the
--- other, and what is left begins no element; the items are these elements, each where its text stands, and the
--- end.
+-- The items are a reading of the bytes at a place: the bytes are the texts of elements, one after the other, and a rest
+-- that no element is a prefix of. The items are these elements, each with the place of its text, and the end.
 pub record IsReading (place : ℕ) (bytes : List ℕ) (items : Items) : Type 0 where
   pub parts : List (Tlv × List ℕ)
   pub left : List ℕ

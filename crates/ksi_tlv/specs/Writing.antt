@@ -11,6 +11,6 @@ written es = map (λ e. (e, canonical e)) es
 abbrev pub texts : List Tlv → List ℕ
 texts es = joined (written es)
 
--- where the elements then stand
+-- the elements with their places
 abbrev pub placed : ℕ → List Tlv → List PlacedTlv
 placed place es = laid place (written es)

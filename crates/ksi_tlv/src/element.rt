@@ -18,7 +18,7 @@ pub struct Element<'a> {
 /// Why there is no element.
 #[derive(Clone, Copy, Debug, PartialEq, Eq)]
 pub enum TlvFault {
-    /// It would take so many bytes, and so many stand: `Short(need, have)`.
+    /// It would take this many bytes, and this many exist: `Short(need, have)`.
     Short(usize, usize),
 }
 

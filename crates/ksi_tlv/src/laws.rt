@@ -48,8 +48,8 @@ pub fn walk_by_fronts()
         elements place (b ∷ bytes) ≡ Err (record { place = place; need = need; have = length (b ∷ bytes) }) ∷ [] }
 {}
 
-/// Elements that are spelled one after the other are read again, each where it stands: in any spelling, and as the
-/// writer writes them.
+/// Elements that are encoded one after the other are read again, each at its place: in any encoding, and as the writer
+/// writes them.
 pub fn written_is_read()
     ensures joined { (place : ℕ) (parts : List (Tlv × List ℕ)) →
         AllByRecursion (λ part. Spells part.0 part.1) parts →

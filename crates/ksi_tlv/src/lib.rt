@@ -6,13 +6,13 @@
 //! long:  1 non_critical forward kind(13)   length(16)  body
 //! ```
 //!
-//! The layer above may rely on this: no spelling of an element begins another; a reader takes both forms and
-//! nothing else; a walk gives every element with its place, or the first that is cut off; the writer takes the
-//! short form where it can hold the element, and what it wrote is read again as it was put. The readers take no
-//! memory. Files begin with a magic, and their elements stand behind it ([`after_magic`]).
+//! The layer above may rely on this: no encoding of an element is a prefix of another; a reader accepts both forms and
+//! nothing else; a walk returns every element with its place, or the first that is cut off; the writer uses the short
+//! form if it can hold the element, and reading returns the elements that were written. The readers allocate no memory.
+//! Files begin with a magic, and their elements follow it ([`after_magic`]).
 //!
-//! What elements may stand in bytes is said in two ways: by a table, in whatever order ([`grammar`]), and in a stated order
-//! ([`order`]).
+//! There are two ways to define which elements a file may have: by a table, in any order ([`grammar`]), and in a fixed
+//! order ([`order`]).
 //!
 //! ```text
 //! let mut writer = Writer::new(alloc);

@@ -4,7 +4,7 @@ ghost use Rattle.ksi_tlv.specs.Numerals.{number_of};
 /// Why bytes are no number.
 #[derive(Clone, Copy, Debug, PartialEq, Eq)]
 pub enum NumberFault {
-    /// There are so many bytes, above 8.
+    /// There are this many bytes, above 8.
     Long(usize),
 }
 

@@ -26,7 +26,7 @@ impl<'a> Elements<'a> {
     ghost use Rattle.ksi_tlv.specs.Walking.{IsReading, elements};
     ghost use Rattle.ksi_tlv.specs.Views.{rest};
 
-    /// The elements of bytes whose first byte stands at place 0.
+    /// The elements of bytes whose first byte is at place 0.
     pub fn new(bytes: &'a [u8]) -> Self
         ensures exact { rest result ≡ elements 0 bytes.now }
         ensures reading { IsReading 0 bytes.now (rest result) }
@@ -34,7 +34,7 @@ impl<'a> Elements<'a> {
         Elements::at(0, bytes)
     }
 
-    /// The elements of bytes whose first byte stands at a place.
+    /// The elements of bytes whose first byte is at a place.
     pub fn at(place: usize, bytes: &'a [u8]) -> Self
         requires { place + length bytes.now < 2 ^ 64 }
         ensures exact { rest result ≡ elements place bytes.now }

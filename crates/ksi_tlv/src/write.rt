@@ -12,7 +12,7 @@ const LIMIT: usize = 65_535;
 /// Why an element was not written.
 #[derive(Clone, Copy, Debug, PartialEq, Eq)]
 pub enum PutRefusal {
-    /// The body has so many bytes, above 65,535.
+    /// The body has this many bytes, above 65,535.
     TooLong(usize),
 }
 

@@ -25,7 +25,7 @@ use Rattle.ksi_top.specs.Loading.{content, loaded, loaded_as, within, signature_
 use Rattle.ksi_top.specs.Verify.{judged, verify_command}
 use Rattle.ksi_schedule.specs.Events.{History}
 use Rattle.ksi_schedule.specs.Spelled.{IsScheduleText}
-use Rattle.ksi_top.specs.Histories.{HoldsOver}
+use Rattle.ksi_replay.specs.HoldsOver.{HoldsOver}
 use Rattle.ksi_top.specs.Complete.{IsTakenFrom}
 
 within_limit : (limit n : ℕ) (bytes : List ℕ) → length bytes ≤ limit → within limit n bytes ≡ Ok bytes
@@ -76,7 +76,7 @@ module _ (signature_read : (bytes : List ℕ) (signature : Signature) → AreByt
       let accepted : verdict imprint_of read hash d.pairs ≡ Accepted second = ap (λ hash. verdict imprint_of read hash d.pairs) (sym for) ∙ to.accepted d.pairs d.published ∙ ap Accepted at in
       verified signature hash publications held read d.pairs (extends d.schedule d.history d.spelled d.number d.text d.issued d.p (content held signature) d.extension) is d.publications_are d.within ∙ ap judged accepted
 
-  pub accepted_again : ((text : List ℕ) (h : History) → IsScheduleText text h → HoldsOver h) → Extends
+  pub accepted_again : ((text : List ℕ) (h : History) → IsScheduleText text h → HoldsOver imprint_of h) → Extends
       → (signature hash publications : List ℕ) (held : Held) (second : ℕ) → IsTakenFrom (content held signature) hash (content held publications) second
       → reported signature hash publications held ≡ judged (Accepted second)
   accepted_again holds extends signature hash publications held second d =

@@ -28,9 +28,9 @@ audit_status _ = Refused
 abbrev pub audited : Audit → Report
 audited answer = report (audit_status answer) (audit_line answer)
 
--- The report is that of an answer which shows what it says. Where the signature is accepted and its publication is
--- decided, the answer tells where the hash stands, or has a clash. For a second before the start, or for a missed one, such
--- a signature has a clash.
+-- The report is that of an answer that is true. If the signature is accepted and its publication is decided, the answer
+-- has the place of the hash, or a clash. For a second before the start, or for a missed one, such a signature has a
+-- clash.
 pub record IsAnswered (journal : Contents) (signature : Signature) (hash : List ℕ) (pairs : List (ℕ × List ℕ)) (report : Report) : Type 0 where
   pub answer : Audit
   pub audit_is : answer ≡ audits.audit imprint_of journal signature hash pairs

@@ -24,8 +24,8 @@ block_told seed lines = report Done (block_line (length lines) (kept_root imprin
 abbrev pub blocked : (seed log : List ℕ) → Report
 blocked seed log = of_log (log_at log) (block_told seed)
 
--- The root is told. Whatever line and proof lead to it, the line stands in the block, with the proof's mask and sides, or the two
--- strings that `locate` prints are different and have one hash.
+-- The root is reported. If any line and proof lead to it, the line is in the block, with the proof's mask and sides, or
+-- the two strings that `locate` prints are different and have one hash.
 pub record TellsRoot (seed : List ℕ) (lines : List (List ℕ)) (report : Report) : Type 0 where
   pub reported : report ≡ block_told seed lines
   pub shows : (line : List ℕ) (proof : LineProof) → HasImprints proof → LeadsToRoot imprint_of (masked seed lines) line proof → StandsOrClash imprint_of (masked seed lines) line proof

@@ -1,5 +1,5 @@
--- When a call over files may report what, also where nothing is told of their contents: `LoadCaused` is of one file that is
--- loaded and read, `ReportCaused` of a command; the others are their parts by status.
+-- When a call over files may report each status, even if nothing is known of their contents: `LoadCaused` is of one file
+-- that is loaded and read, `ReportCaused` of a command; the others are their parts by status.
 use Rattle.std.specs.Prelude.{◌≡◌, ◌⊎◌, ℕ, ◌+◌, ◌<◌, ◌≤◌, List, Option, None, Some, Result, Ok, Err, slice_get}
 use Rattle.ksi_ports.specs.Outside.{count_up, Raises, RoseBy}
 use Rattle.ksi_ports.specs.declared.files.Files as files
@@ -86,8 +86,8 @@ LoadCaused n limit before now (Err (halts.Reported report)) = PassesLimit n limi
 LoadCaused n limit before now (Err halts.Fault) = Faulty before now
 LoadCaused n limit before now (Err halts.NoMemory) = Quiet before now
 
--- The line names the word of a file that passes its limit. It is the k-th of the files that are loaded, each told by its word
--- and its limit, and was the last that was loaded: its load took more bytes than its limit.
+-- The line names the word of a file that exceeds its limit. It is the k-th of the files that are loaded, each given by
+-- its word and its limit, and was the last that was loaded: its load took more bytes than its limit.
 pub record SomePasses (files : List (ℕ × ℕ)) (before now : Counts) (line : List ℕ) : Type 0 where
   pub k : ℕ
   pub n : ℕ

@@ -13,11 +13,11 @@ drilled_line seconds missed issued accepted inside beneath = line_text (
     codes "seconds" ∷ decimal seconds ∷ codes "missed" ∷ decimal missed ∷ codes "issued" ∷ decimal issued
     ∷ codes "accepted" ∷ decimal accepted ∷ codes "inside" ∷ decimal inside ∷ codes "beneath" ∷ decimal beneath ∷ [])
 
--- its counts are told; nothing is saved
+-- its counts are reported; nothing is saved
 abbrev pub tallied : Tally → Report
 tallied tally = report Done (drilled_line tally.seconds tally.missed tally.issued tally.accepted tally.inside tally.beneath)
 
--- what is told are the counts of the number, and every issued signature is accepted
+-- the reported counts are those of the number, and every issued signature is accepted
 pub record IsDrilled (number : ℕ) (report : Report) : Type 0 where
   pub reported : report ≡ tallied (drilled number)
   pub accepted : (drilled number).accepted ≡ (drilled number).issued

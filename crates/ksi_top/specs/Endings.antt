@@ -10,7 +10,7 @@ use Rattle.ksi_top.specs.Causes.{Counts, SomePasses}
 use Rattle.ksi_words.specs.Words.{Asked}
 use Rattle.ksi_top.specs.Run.{files_of, refused, saved_into}
 
--- a fact on a run that neither a fault nor want of memory cut short
+-- a fact on a run that ended neither by a fault nor by running out of memory
 abbrev pub UnlessCut : Status → Type 0 → Type 0
 UnlessCut Done P = P
 UnlessCut Refused P = P

@@ -30,7 +30,7 @@ not_later_line p1 p2 = refused_for (codes "F4" ∷ decimal p1 ∷ decimal p2 ∷
 abbrev pub front_to : Contents → (p1 p2 : ℕ) → fronts.Contents
 front_to journal p1 p2 = record { p1 = p1; p2 = p2; list = calendar_front imprint_of (calendar_of journal) p1 p2 }
 
--- both seconds are told, and how many imprints the front has; its file is saved
+-- both seconds are reported, and how many imprints the front has; its file is saved
 abbrev pub front_saved : (out : List ℕ) → fronts.Contents → Report
 front_saved out front = saving (front_line front.p1 front.p2 (length front.list)) out (front_text front)
 

@@ -17,13 +17,13 @@ inspected_line core records sealed held = line_text (
 abbrev pub said_of : Inspected → Report
 said_of said = report Done (inspected_line said.core said.counts.records said.counts.sealed said.counts.held)
 
--- The file is one of a core, with facts of which there are so many, for so many seconds.
+-- The file is one of a core, with this many facts, for this many seconds.
 pub record HasSaid (file : List ℕ) (report : Report) : Type 0 where
   pub said : Inspected
   pub is : IsInspected file said
   pub reported : report ≡ said_of said
 
--- the node file is loaded, and it is told what it says
+-- the node file is loaded, and its content is reported
 abbrev pub inspect_command : (node : List ℕ) → CommandRow
 inspect_command node = record {
   files = (1, file_limit) ∷ [];

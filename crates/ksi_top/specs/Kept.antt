@@ -7,8 +7,8 @@ use Rattle.ksi_top.specs.declared.report.Report.{Report}
 use Rattle.ksi_top.specs.declared.status.Status.TheVariants.{Refused}
 use Rattle.ksi_top.specs.Reports.{report}
 
--- Why it does not: it begins behind p, or this second is the first, from its start to the last one, that it does not keep.
--- There is no reason where it keeps all.
+-- Why it does not: it begins after p, or this second is the first, from its start to the last one, that it does not keep.
+-- There is no reason if it keeps all.
 abbrev pub unkept : Contents → (p last : ℕ) → Option Report
 unkept journal p last =
     if nat_lt p journal.start

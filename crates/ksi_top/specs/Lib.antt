@@ -2,7 +2,6 @@ pub mod Codes
 pub mod Reports
 pub mod Loading
 pub mod Causes
-pub mod Histories
 pub mod Replay
 pub mod Sign
 pub mod Publish

@@ -1,4 +1,4 @@
--- What a file word stands for.
+-- The meaning of a file word.
 use Rattle.std.specs.Prelude.{ℕ, List, [], ◌∷◌, codes, length, unwrap_or, nat_lt, Result, Ok, Err, if◌then◌else◌}
 use Rattle.std.specs.Fmt.{decimal}
 use Rattle.ksi_ports.specs.Stored.{Held}
@@ -48,7 +48,7 @@ loaded limit n held name = within limit n (content held name)
 
 -- ---- what the bytes of file word n are, where they are in the file's grammar, or the first fault
 
--- a kind of file: the words that its faults are told by, and what bytes are read as
+-- a kind of file: the words by which its faults are reported, and the reading of bytes
 pub record FileKind (T : Type 0) : Type 1 where
   pub Fault : Type 0
   pub words : Fault → List (List ℕ)
@@ -94,7 +94,7 @@ abbrev pub shown_or_halt : {T U : Type 0} → (T → U) → Result T Halt → Re
 shown_or_halt shows (Ok view) = Ok (shows view)
 shown_or_halt shows (Err halt) = Err halt
 
--- ---- what file word n is read as: the report of its fault stands in the place of what passes its limit, or is malformed
+-- ---- the reading of file word n: a file that exceeds its limit, or is malformed, has the report of its fault instead
 
 unfoldable pub loaded_as : {T : Type 0} → FileKind T → ℕ → ℕ → Held → List ℕ → Result T Report
 loaded_as file limit n held name = and_then (loaded limit n held name) (read_as file n)

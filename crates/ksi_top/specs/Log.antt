@@ -20,7 +20,7 @@ abbrev pub of_log : Result (List (List ℕ)) LogRefusal → (List (List ℕ) →
 of_log (Ok lines) told = told lines
 of_log (Err refusal) told = log_refused refusal
 
--- this refusal stands, and is reported
+-- this refusal applies, and is reported
 pub record IsLogRefused (lines : List (List ℕ)) (report : Report) : Type 0 where
   pub refusal : LogRefusal
   pub stands : IsLogRefusal lines refusal

@@ -18,7 +18,7 @@ use Rattle.ksi_top.specs.Loading.{content, loaded_mirror, file_limit}
 abbrev pub merged_line : (roots : ℕ) → List ℕ
 merged_line roots = line_text (codes "merged" ∷ decimal roots ∷ [])
 
--- the union is saved, and it is told how many roots it has
+-- the union is saved, and the number of its roots is reported
 abbrev pub merged_saved : (out : List ℕ) → MirrorState → Report
 merged_saved out merged = saving (merged_line (length merged.roots)) out (mirror_text merged)
 
@@ -29,7 +29,7 @@ merged_report out (Err refusal) = report Refused (not_merged_line refusal)
 abbrev pub merged : (out : List ℕ) → (one two : MirrorState) → Report
 merged out one two = merged_report out (merged_of one two)
 
--- what is saved is the file of the union, and is read again as it; or there is no union, for the reason that is told
+-- the saved file is that of the union, and is read again as it; or there is no union, for the reported reason
 abbrev pub IsMergeAnswer : (one two : MirrorState) → Result MirrorState MergeRefusal → Type 0
 IsMergeAnswer one two (Ok merged) = Merges one two merged × IsMirrorFile (mirror_text merged) merged
 IsMergeAnswer one two (Err refusal) = IsMergeRefusal one two refusal

@@ -21,7 +21,7 @@ use Rattle.ksi_top.specs.Compare.{compare_command}
 abbrev pub migrated_line : ℕ → List ℕ
 migrated_line seconds = line_text (codes "migrated" ∷ decimal seconds ∷ [])
 
--- the journal is saved in version 2, and it is told how many seconds it keeps
+-- the journal is saved in version 2, and the number of its kept seconds is reported
 abbrev pub migrated : (new : List ℕ) → Contents → Report
 migrated new journal = saving (migrated_line (length journal.seconds)) new (text_in Two journal)
 

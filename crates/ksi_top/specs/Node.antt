@@ -17,7 +17,7 @@ use Rattle.ksi_top.specs.Mirror.{no_core_line}
 abbrev pub node_line : (core records : ℕ) → List ℕ
 node_line core records = line_text (codes "node" ∷ decimal core ∷ codes "records" ∷ decimal records ∷ [])
 
--- the core and how many facts it stored are told, and its file is saved
+-- the core and the number of facts that it stored are reported, and its file is saved
 abbrev pub node_saved : (out : List ℕ) (core : ℕ) → History → Report
 node_saved out core h = saving (node_line core (length (core_facts imprint_of h.plan h.events core))) out (node_of imprint_of h core)
 

@@ -24,7 +24,7 @@ pub record IsLoaded {F T : Type 0} (kind : files.Ghosts F) (n limit : ℕ) (expe
   -- where the files tell what they hold: the value, or the report in its place, and nothing changes
   pub told : IsTrue kind.tells → Gives expected result
   pub stays : IsTrue kind.tells → kind.held new ≡ kind.held old
-  -- it is loaded once at most, and not at all where it is too long and memory was wanting
+  -- it is loaded at most once, and not at all if it is too long and memory ran out
   pub later : kind.calls old ≤ kind.calls new
   pub few_calls : kind.calls new ≤ kind.calls old + 1
   pub wanting : IsTrue kind.tells → result ≡ Err halts.NoMemory → IsTooLong expected → kind.calls new ≡ kind.calls old
@@ -37,7 +37,7 @@ pub record Performed {F : Type 0} (kind : files.Ghosts F) (row : CommandRow) (ol
   pub told : IsTrue kind.tells → Reports (row.ran (kind.held old)).reported result
   pub means : IsTrue kind.tells → Means (row.means (kind.held old)) result
   pub stays : IsTrue kind.tells → kind.held new ≡ kind.held old
-  -- each file is loaded once at most, and only behind those that are read
+  -- each file is loaded at most once, and only after those that are read
   pub calls : IsTrue kind.tells → kind.calls new ≤ kind.calls old + (row.ran (kind.held old)).loads
   pub later : kind.calls old ≤ kind.calls new
   pub few_calls : kind.calls new ≤ kind.calls old + length row.files

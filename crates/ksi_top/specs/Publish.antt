@@ -11,7 +11,7 @@ abbrev pub time_of : Option (ℕ × List ℕ) → ℕ
 time_of None = 0
 time_of (Some publication) = publication.0
 
--- the time of the last publication, 0 where there is none
+-- the time of the last publication, or 0
 abbrev pub last_time : List (ℕ × List ℕ) → ℕ
 last_time publications = time_of (slice_get publications (length publications - 1))
 

@@ -13,7 +13,7 @@ use Rattle.ksi_lines.specs.Lines.{line_text}
 use Rattle.ksi_top.specs.declared.report.Report.{Report}
 use Rattle.ksi_top.specs.Reports.{CommandRow, saving, ends, behind, WhereRead}
 use Rattle.ksi_top.specs.Loading.{content, loaded_schedule, file_limit}
-use Rattle.ksi_top.specs.Histories.{HoldsOver}
+use Rattle.ksi_replay.specs.HoldsOver.{HoldsOver}
 
 abbrev pub replayed_line : (events messages seconds issued published : ℕ) → List ℕ
 replayed_line events messages seconds issued published = line_text (
@@ -25,7 +25,7 @@ unfoldable pub counted : History → Contents → List ℕ
 counted h journal =
     replayed_line (length h.events) (length (world_of imprint_of h).wire) (length journal.seconds) (length journal.issued) (length journal.publications)
 
--- the counts are told, and the journal is saved
+-- the counts are reported, and the journal is saved
 abbrev pub replayed_as : (name : List ℕ) → History → Contents → Report
 replayed_as name h journal = saving (counted h journal) name (journal_text journal)
 
@@ -40,7 +40,7 @@ pub record IsReplayed (schedule name : List ℕ) (report : Report) : Type 0 wher
   pub reported : report ≡ replayed name history
   pub lawful : IsJournal imprint_of (journal_of imprint_of history)
   pub again : IsJournalFile imprint_of (journal_text (journal_of imprint_of history)) (journal_of imprint_of history)
-  pub holds : HoldsOver history
+  pub holds : HoldsOver imprint_of history
 
 -- the schedule is loaded, its events happen, and the journal of what was kept is saved
 abbrev pub replay_command : (schedule journal : List ℕ) → CommandRow

@@ -39,26 +39,26 @@ abbrev pub loads_behind : {T : Type 0} → Result T Report → (T → Ran) → �
 loads_behind (Ok value) next = (next value).loads
 loads_behind (Err report) next = 0
 
--- A file is loaded: what follows from the value that was read of it, or the report that stands in its place and ends the run.
+-- A file is loaded: the consequence of the value that was read from it, or the report that replaces it and ends the run.
 abbrev pub behind : {T : Type 0} → Result T Report → (T → Ran) → Ran
 behind expected next = record { reported = reported_behind expected next; loads = 1 + loads_behind expected next }
 
--- A command: the files that it loads, in this order, each told by its word and the most bytes that it may have; the most
--- saves; what it reports and how many files it loads, by what is held; and what its report means, by what is held.
+-- A command: the files that it loads, in this order, each given by its word and its limit in bytes; the most saves; its
+-- report and how many files it loads, as functions of the contents; and the meaning of its report.
 pub record CommandRow : Type 1 where
   pub files : List (ℕ × ℕ)
   pub saves : ℕ
   pub ran : Held → Ran
   pub means : Held → Report → Type 0
 
--- what is read of a value, or the report that stands in its place
+-- the result of reading, or the report that replaces it
 abbrev pub and_then : {T U : Type 0} → Result T Report → (T → Result U Report) → Result U Report
 and_then (Ok value) next = next value
 and_then (Err report) next = Err report
 
 -- ---- what a call gives
 
--- what is expected, or a fault or want of memory ended it
+-- the expected result, or the run ended by a fault or out of memory
 abbrev pub Gives : {T : Type 0} → Result T Report → Result T Halt → Type 0
 Gives expected (Ok value) = expected ≡ Ok value
 Gives expected (Err (Reported report)) = expected ≡ Err report
@@ -84,7 +84,7 @@ HaltsMalformed (Err (Reported report)) = (report.status ≡ Malformed) × (repor
 HaltsMalformed (Err Fault) = ⊥
 HaltsMalformed (Err NoMemory) = Unit {0}
 
--- what a report means, of a call that gives one unless a fault or want of memory ended it
+-- the meaning of a report, for a call that returns one unless it ends by a fault or out of memory
 abbrev pub Means : (Report → Type 0) → Result Report Halt → Type 0
 Means P (Ok report) = P report
 Means P (Err (Reported report)) = P report
@@ -99,12 +99,12 @@ WhereRead P report = report.status ≢ TooLong → report.status ≢ Malformed �
 abbrev pub Nothing : Report → Type 0
 Nothing report = Unit {0}
 
--- the report that stands in a value's place tells of a file that passes its limit
+-- the report that replaces a value is that of a file that exceeds its limit
 abbrev pub IsTooLong : {T : Type 0} → Result T Report → Type 0
 IsTooLong (Ok value) = ⊥
 IsTooLong (Err report) = report.status ≡ TooLong
 
--- A file that was loaded and is too long is never told as want of memory: where the run ends with one and memory was wanting,
--- fewer loads were made than the run makes, so not that file's.
+-- A file that was loaded and is too long is never reported as out of memory: if the run should report such a file and ends
+-- out of memory, fewer loads were made than the run makes, so not that file's.
 abbrev pub Unloaded : Ran → (before now : ℕ) → Result Report Halt → Type 0
 Unloaded ran before now result = result ≡ Err NoMemory → ran.reported.status ≡ TooLong → now < before + ran.loads

@@ -85,7 +85,7 @@ abbrev pub saved_into : Option (List ℕ × List ℕ) → Held → Held
 saved_into None held = held
 saved_into (Some file) held = with_file held file.0 file.1
 
--- the files that a command loads, each told by its word and the most bytes that it may have
+-- the files that a command loads, each given by its word and its limit in bytes
 abbrev pub files_of : Asked → List (ℕ × ℕ)
 files_of asked = (row_of asked).files
 

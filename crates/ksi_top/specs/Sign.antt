@@ -7,7 +7,7 @@ use Rattle.ksi_top.specs.declared.status.Status.TheVariants as statuses
 use Rattle.ksi_top.specs.Reports.{CommandRow, report, saving, ends, behind, Nothing, WhereRead}
 use Rattle.ksi_top.specs.Loading.{loaded_journal, file_limit}
 
--- the bytes that stand beside the number
+-- the bytes with the number
 abbrev pub signature_of : (number : ℕ) → List (ℕ × List ℕ) → Option (List ℕ)
 signature_of number [] = None
 signature_of number (issued ∷ others) = if issued.0 == number then Some issued.1 else signature_of number others

@@ -22,15 +22,15 @@ judged (Accepted second) = report statuses.Done (accepted_line second)
 judged (Refused refusal) = report statuses.Refused (refused_line refusal)
 
 -- the report is the verdict's
-pub record IsVerifiedOver (signature : Signature) (hash publications : List ℕ) (report : Report) : Type 0 where
+pub record ReportsVerdictOver (signature : Signature) (hash publications : List ℕ) (report : Report) : Type 0 where
   pub pairs : List (ℕ × List ℕ)
   pub publications_are : IsPublications publications pairs
   pub reported : report ≡ judged (verdict imprint_of signature hash pairs)
 
-pub record IsVerified (signature hash publications : List ℕ) (report : Report) : Type 0 where
+pub record ReportsVerdict (signature hash publications : List ℕ) (report : Report) : Type 0 where
   pub read : Signature
   pub signature_is : IsSignature signature read
-  pub over : IsVerifiedOver read hash publications report
+  pub over : ReportsVerdictOver read hash publications report
 
 -- the publications file is loaded, then the checks are made
 abbrev pub verify_over : Signature → (hash publications : List ℕ) → CommandRow
@@ -38,7 +38,7 @@ verify_over signature hash publications = record {
   files = (3, file_limit) ∷ [];
   saves = 0;
   ran = λ held. behind (loaded_publications 3 held publications) (λ p. ends (judged (verdict imprint_of signature hash p)));
-  means = λ held. WhereRead (IsVerifiedOver signature hash (content held publications));
+  means = λ held. WhereRead (ReportsVerdictOver signature hash (content held publications));
 }
 
 -- the signature is loaded, then the publications file
@@ -47,5 +47,5 @@ verify_command signature hash publications = record {
   files = (1, signature_limit) ∷ (3, file_limit) ∷ [];
   saves = 0;
   ran = λ held. behind (loaded_signature 1 held signature) (λ s. (verify_over s hash publications).ran held);
-  means = λ held. WhereRead (IsVerified (content held signature) hash (content held publications));
+  means = λ held. WhereRead (ReportsVerdict (content held signature) hash (content held publications));
 }

@@ -19,7 +19,7 @@ use Rattle.ksi_top.specs.Loading.{content, loaded_mirror, file_limit}
 abbrev pub whole_line : (roots : ℕ) → List ℕ
 whole_line roots = line_text (codes "whole" ∷ decimal roots ∷ [])
 
--- the journal is saved, and it is told how many seconds it keeps
+-- the journal is saved, and the number of its kept seconds is reported
 abbrev pub whole_saved : (out : List ℕ) → Contents → Report
 whole_saved out journal = saving (whole_line (length journal.seconds)) out (journal_text journal)
 

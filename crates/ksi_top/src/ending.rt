@@ -17,8 +17,8 @@ use std::alloc::Global;
 
 /// Runs the command that the words ask for: loads its files, saves its result, then puts its line.
 ///
-/// The words leave out the program's name. At most one file is saved and one line is put, of at most 32,767 bytes: for so many
-/// the output has to be free.
+/// The words leave out the program's name. At most one file is saved and one line is put, of at most 32,767 bytes: the
+/// output has to be free for that many.
 pub fn ksi<F: Files, K: Sink>(alloc: Global, words: &[String], files: &mut F, out: &mut K) -> Status
     requires free { 32767 ≤ K.free out.old }
 
@@ -58,14 +58,14 @@ pub fn ksi<F: Files, K: Sink>(alloc: Global, words: &[String], files: &mut F, ou
     ensures files_fault { F.faults files.old < F.faults files.new → result ≡ Status.Fault }
     ensures sink_fault { K.faults out.old < K.faults out.new → result ≡ Status.Fault }
 
-    // Only a result is saved, and want of memory puts nothing.
+    // Only a result is saved, and a run that is out of memory puts nothing.
     ensures unsaved { result ≢ Status.Done → result ≢ Status.Fault → IsTrue F.tells →
         F.held files.new ≡ F.held files.old }
     ensures unput { result ≡ Status.NoMemory →
         (K.puts out.new ≡ K.puts out.old) × (IsTrue K.tells → K.written out.new ≡ K.written out.old) }
 
-    // A file that was loaded and is too long is never told as want of memory: where the run ends with status 7 and memory was
-    // wanting, fewer loads were made than the run makes, so not that file's.
+    // A file that was loaded and is too long is never reported as out of memory: if the run should end with status 7 and
+    // memory runs out, fewer loads were made than the run makes, so not that file's.
     ensures wanting { IsTrue F.tells → result ≡ Status.NoMemory →
         (run (texts words.now) (F.held files.old)).status ≡ Status.TooLong →
         F.calls files.new < F.calls files.old + run_loads (command_of (texts words.now)) (F.held files.old) }
@@ -129,7 +129,7 @@ fn finish<F: Files, K: Sink>(alloc: Global, report: &Report, files: &mut F, out:
     }
 }
 
-/// Saves the file, where there is one.
+/// Saves the file, if there is one.
 fn save<F: Files>(alloc: Global, report: &Report, files: &mut F) -> Result<(), SaveRefusal>
     ensures { Saves F.Files report.now.saved files.old files.new result }
 {

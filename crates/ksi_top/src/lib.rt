@@ -1,8 +1,9 @@
-//! The top call: one run of a command over files and an output that are lent.
+//! The top call: one run of a command over borrowed files and a borrowed output.
 //!
-//! [`ksi`] loads the files that the words name, computes the command's report, saves its file and puts its line. What a
-//! run reports is the definition `run` of the words and the files held; which counts rose says when it may report a fault.
-//! [`sure_run`] is the same over files and an output in memory that do not fail: there no run ends with a fault.
+//! [`ksi`] loads the files that the words name, computes the command's report, saves its file and prints its line. The
+//! report of a run is the definition `run` of the words and the contents of the files. The counts of faults state when a
+//! run may report a fault. [`sure_run`] is the same over files and an output in memory that do not fail: there no run ends
+//! with a fault.
 //!
 //! ```text
 //! let mut files = HostFiles::new(&rt);

@@ -33,7 +33,7 @@ fn published(alloc: Global, out: &str, publications: &[(u64, Imprint)]) -> Resul
     Ok(Report::saving(line, Saved::named(alloc, out, bytes)?))
 }
 
-/// The time of the last publication, 0 where there is none.
+/// The time of the last publication, or 0 if there is none.
 fn last_time(publications: &[(u64, Imprint)]) -> u64
     ensures { result ≡ last_time publications.now }
 {

@@ -29,7 +29,7 @@ pub(crate) fn sign<F: Files>(
     ended(signed(alloc, number, out, signature))
 }
 
-/// The bytes that stand beside the number.
+/// The bytes with the number.
 fn signature_of(issued: &[(u64, Bytes)], number: u64) -> Option<&Bytes>
     ensures { option_copied result ≡ signature_of number issued.now }
 {

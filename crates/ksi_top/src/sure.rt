@@ -10,8 +10,8 @@ use crate::status::Status;
 use ksi_ports::{SureFiles, SureSink};
 use std::alloc::Global;
 
-/// Runs the command as [`ksi`] does, over files and an output in memory whose calls do not fail. There is no fault, so the run
-/// is that of the words and the files held, or memory was wanting: then nothing is saved and nothing put.
+/// Runs the command as [`ksi`] does, over files and an output in memory whose calls do not fail. There is no fault, so
+/// the run is that of the words and the files held, or memory ran out: then nothing is saved and nothing put.
 pub fn sure_run(
     alloc: Global,
     words: &[String],

@@ -9,13 +9,13 @@ use std::alloc::Global;
 use std::test::Fail;
 
 /// Which messages are delivered in a ballot that these two of three voters answer, counted from its first message. These are
-/// `ballot_numbers` of `ksi_progress/specs/Numbers`.
+/// `ballot_numbers` of `ksi_laws_progress/specs/Numbers`.
 fn delivered(pair: [u64; 2]) -> [u64; 11] {
     let begun = [pair[0].wrapping_add(5), pair[1].wrapping_add(5)];
     [pair[0], pair[1], 3, 4, begun[0], begun[1], 8, 9, 10, 11, 12]
 }
 
-/// The lines of a ballot whose first message has this number: `ballot_events` of `ksi_progress/specs/Deciding`.
+/// The lines of a ballot whose first message has this number: `ballot_events` of `ksi_laws_progress/specs/Deciding`.
 fn ballot(alloc: Global, at: &str, first: u64, pair: [u64; 2]) -> Option<String> {
     let mut lines = format!(in alloc; "seal {at}\nballot {at}\n").ok()?;
     for offset in delivered(pair) {

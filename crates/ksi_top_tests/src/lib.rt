@@ -1,8 +1,8 @@
-//! Tests of the top call, `ksi_top::ksi`, over files and an output in memory, and of what is run through the nodes
+//! Tests of the top call, `ksi_top::ksi`, over files and an output in memory, and of schedules run through the nodes
 //! (`ksi_replay`).
 //!
-//! They stand in a crate of their own, since a crate with tests is proved twice. Nothing is here for the layers above.
-//! Most are scripts, texts whose rows `script.rt` plays; those of the nodes are rows that `rows.rt` reads.
+//! They are in a crate of their own, since a crate with tests is proved twice. No layer above uses it. Most are scripts,
+//! texts whose rows `script.rt` plays; those of the nodes are rows that `rows.rt` reads.
 #![tactic(auto)]
 
 #[cfg(test)]

@@ -14,33 +14,33 @@ use Rattle.ksi_verifier.specs.declared.refusal.Refusal.{Refusal}
 use Rattle.ksi_verifier.specs.declared.refusal.Refusal.TheVariants.{ChainBreak}
 use Rattle.ksi_verifier.specs.Checks.{◌>>=◌, ◌>>◌, need}
 use Rattle.ksi_verifier.specs.Chains.{PlainChain, at_level_zero, higher_chains}
-use Rattle.ksi_verifier.specs.ChainChecks.{or_level, tops, unbroken, last_item, joined_chains}
+use Rattle.ksi_verifier.specs.ChainChecks.{or_level, tops, unbroken, last_node, joined_chains}
 use Rattle.ksi_verifier.specs.Leading.{BreaksAt}
 use Rattle.ksi_verifier.proofs.Passing.{good}
 use Rattle.ksi_verifier.proofs.Levels.{tops_both}
 
--- the first chain of a list that does not state the imprint of the item at its place
-record FirstBreak (items : List Node) (chains : List PlainChain) (j : ℕ) (computed stated : List ℕ) : Type 0 where
-  item : Node
+-- the first chain of a list that does not state the imprint of the node at its place
+record FirstBreak (nodes : List Node) (chains : List PlainChain) (j : ℕ) (computed stated : List ℕ) : Type 0 where
+  node : Node
   chain : PlainChain
-  has_item : slice_get items j ≡ Some item
+  has_node : slice_get nodes j ≡ Some node
   has_chain : slice_get chains j ≡ Some chain
-  is_computed : computed ≡ item.imprint
+  is_computed : computed ≡ node.imprint
   is_stated : stated ≡ chain.input
   differ : stated ≢ computed
-  first : (i : ℕ) (below : Node) (next : PlainChain) → i < j → slice_get items i ≡ Some below → slice_get chains i ≡ Some next → next.input ≡ below.imprint
+  first : (i : ℕ) (below : Node) (next : PlainChain) → i < j → slice_get nodes i ≡ Some below → slice_get chains i ≡ Some next → next.input ≡ below.imprint
 
-module _ (below : Node) (items : List Node) (chain : PlainChain) (chains : List PlainChain) (computed stated : List ℕ) where
-  before : (j : ℕ) → chain.input ≡ below.imprint → FirstBreak items chains j computed stated
-      → (i : ℕ) (other : Node) (next : PlainChain) → i < suc j → slice_get (below ∷ items) i ≡ Some other → slice_get (chain ∷ chains) i ≡ Some next → next.input ≡ other.imprint
+module _ (below : Node) (nodes : List Node) (chain : PlainChain) (chains : List PlainChain) (computed stated : List ℕ) where
+  before : (j : ℕ) → chain.input ≡ below.imprint → FirstBreak nodes chains j computed stated
+      → (i : ℕ) (other : Node) (next : PlainChain) → i < suc j → slice_get (below ∷ nodes) i ≡ Some other → slice_get (chain ∷ chains) i ≡ Some next → next.input ≡ other.imprint
   before j same f zero other next lt a b = let x : below ≡ other = cc in let y : chain ≡ next = cc in ap (λ (c : PlainChain). c.input) (sym y) ∙ (same ∙ ap (λ (z : Node). z.imprint) x)
   before j same f (suc i) other next lt a b = f.first i other next (omega (arith, lt)) a b
 
-  pushed : (j : ℕ) → chain.input ≡ below.imprint → FirstBreak items chains j computed stated → FirstBreak (below ∷ items) (chain ∷ chains) (suc j) computed stated
+  pushed : (j : ℕ) → chain.input ≡ below.imprint → FirstBreak nodes chains j computed stated → FirstBreak (below ∷ nodes) (chain ∷ chains) (suc j) computed stated
   pushed j same f = record {
-    item = f.item;
+    node = f.node;
     chain = f.chain;
-    has_item = f.has_item;
+    has_node = f.has_node;
     has_chain = f.has_chain;
     is_computed = f.is_computed;
     is_stated = f.is_stated;
@@ -48,11 +48,11 @@ module _ (below : Node) (items : List Node) (chain : PlainChain) (chains : List 
     first = before j same f;
   }
 
-  popped : (j : ℕ) → FirstBreak (below ∷ items) (chain ∷ chains) (suc j) computed stated → FirstBreak items chains j computed stated
+  popped : (j : ℕ) → FirstBreak (below ∷ nodes) (chain ∷ chains) (suc j) computed stated → FirstBreak nodes chains j computed stated
   popped j f = record {
-    item = f.item;
+    node = f.node;
     chain = f.chain;
-    has_item = f.has_item;
+    has_node = f.has_node;
     has_chain = f.has_chain;
     is_computed = f.is_computed;
     is_stated = f.is_stated;
@@ -61,11 +61,11 @@ module _ (below : Node) (items : List Node) (chain : PlainChain) (chains : List 
   }
 
   -- the lowest of them breaks
-  here : chain.input ≢ below.imprint → computed ≡ below.imprint → stated ≡ chain.input → FirstBreak (below ∷ items) (chain ∷ chains) 0 computed stated
+  here : chain.input ≢ below.imprint → computed ≡ below.imprint → stated ≡ chain.input → FirstBreak (below ∷ nodes) (chain ∷ chains) 0 computed stated
   here other a b = record {
-    item = below;
+    node = below;
     chain = chain;
-    has_item = refl;
+    has_node = refl;
     has_chain = refl;
     is_computed = a;
     is_stated = b;
@@ -73,48 +73,48 @@ module _ (below : Node) (items : List Node) (chain : PlainChain) (chains : List 
     first = λ i x y lt p q. absurd (omega (arith, lt));
   }
 
-  input_of : FirstBreak (below ∷ items) (chain ∷ chains) 0 computed stated → stated ≡ chain.input
+  input_of : FirstBreak (below ∷ nodes) (chain ∷ chains) 0 computed stated → stated ≡ chain.input
   input_of f = let there = f.has_chain in let is : chain ≡ f.chain = cc in f.is_stated ∙ ap (λ (c : PlainChain). c.input) (sym is)
 
-  imprint_of : FirstBreak (below ∷ items) (chain ∷ chains) 0 computed stated → computed ≡ below.imprint
-  imprint_of f = let there = f.has_item in let is : below ≡ f.item = cc in f.is_computed ∙ ap (λ (x : Node). x.imprint) (sym is)
+  imprint_of : FirstBreak (below ∷ nodes) (chain ∷ chains) 0 computed stated → computed ≡ below.imprint
+  imprint_of f = let there = f.has_node in let is : below ≡ f.node = cc in f.is_computed ∙ ap (λ (x : Node). x.imprint) (sym is)
 
 abbrev failed : Refusal → Result (Unit {0}) Refusal
 failed refusal = Err refusal
 
 abbrev Broken : ℕ → ℕ → List Node → List PlainChain → List ℕ → List ℕ → Type 0
-Broken n k items chains computed stated = (j : ℕ) × (k ≡ n + j) × FirstBreak items chains j computed stated
+Broken n k nodes chains computed stated = (j : ℕ) × (k ≡ n + j) × FirstBreak nodes chains j computed stated
 
-breaks_both : (n : ℕ) (items : List Node) (chains : List PlainChain) (k : ℕ) (computed stated : List ℕ) → (unbroken n items chains ≡ failed (ChainBreak k computed stated)) ↔ Broken n k items chains computed stated
-breaks_both n [] [] k computed stated = (λ e. absurd cc, λ h. absurd (let there = h.2.has_item in cc))
-breaks_both n [] (chain ∷ chains) k computed stated = (λ e. absurd cc, λ h. absurd (let there = h.2.has_item in cc))
-breaks_both n (below ∷ items) [] k computed stated = (λ e. absurd cc, λ h. absurd (let there = h.2.has_chain in cc))
-breaks_both n (below ∷ items) (chain ∷ chains) k computed stated = of (breaks_both (n + 1) items chains k computed stated) (bytes_eq chain.input below.imprint) refl
+breaks_both : (n : ℕ) (nodes : List Node) (chains : List PlainChain) (k : ℕ) (computed stated : List ℕ) → (unbroken n nodes chains ≡ failed (ChainBreak k computed stated)) ↔ Broken n k nodes chains computed stated
+breaks_both n [] [] k computed stated = (λ e. absurd cc, λ h. absurd (let there = h.2.has_node in cc))
+breaks_both n [] (chain ∷ chains) k computed stated = (λ e. absurd cc, λ h. absurd (let there = h.2.has_node in cc))
+breaks_both n (below ∷ nodes) [] k computed stated = (λ e. absurd cc, λ h. absurd (let there = h.2.has_chain in cc))
+breaks_both n (below ∷ nodes) (chain ∷ chains) k computed stated = of (breaks_both (n + 1) nodes chains k computed stated) (bytes_eq chain.input below.imprint) refl
   where
     d : (bytes_eq chain.input below.imprint ≡ true) ↔ (chain.input ≡ below.imprint)
     d = bytes_eq-Decides chain.input below.imprint
 
-    back : (unbroken (n + 1) items chains ≡ failed (ChainBreak k computed stated)) ↔ Broken (n + 1) k items chains computed stated → chain.input ≡ below.imprint
-        → (j : ℕ) → k ≡ n + j → FirstBreak (below ∷ items) (chain ∷ chains) j computed stated → unbroken (n + 1) items chains ≡ failed (ChainBreak k computed stated)
-    back higher same zero is f = absurd (f.differ (input_of below items chain chains computed stated f ∙ (same ∙ sym (imprint_of below items chain chains computed stated f))))
-    back higher same (suc j) is f = higher.1 (j, omega (arith, is), popped below items chain chains computed stated j f)
+    back : (unbroken (n + 1) nodes chains ≡ failed (ChainBreak k computed stated)) ↔ Broken (n + 1) k nodes chains computed stated → chain.input ≡ below.imprint
+        → (j : ℕ) → k ≡ n + j → FirstBreak (below ∷ nodes) (chain ∷ chains) j computed stated → unbroken (n + 1) nodes chains ≡ failed (ChainBreak k computed stated)
+    back higher same zero is f = absurd (f.differ (input_of below nodes chain chains computed stated f ∙ (same ∙ sym (imprint_of below nodes chain chains computed stated f))))
+    back higher same (suc j) is f = higher.1 (j, omega (arith, is), popped below nodes chain chains computed stated j f)
 
-    stop : chain.input ≢ below.imprint → (j : ℕ) → k ≡ n + j → FirstBreak (below ∷ items) (chain ∷ chains) j computed stated → failed (ChainBreak n below.imprint chain.input) ≡ failed (ChainBreak k computed stated)
+    stop : chain.input ≢ below.imprint → (j : ℕ) → k ≡ n + j → FirstBreak (below ∷ nodes) (chain ∷ chains) j computed stated → failed (ChainBreak n below.imprint chain.input) ≡ failed (ChainBreak k computed stated)
     stop other zero is f =
         let a : k ≡ n = omega (arith, is) in
-        let b = input_of below items chain chains computed stated f in
-        let c = imprint_of below items chain chains computed stated f in
+        let b = input_of below nodes chain chains computed stated f in
+        let c = imprint_of below nodes chain chains computed stated f in
         cc
     stop other (suc j) is f = absurd (other (f.first 0 below chain (omega arith) refl refl))
 
-    of : (unbroken (n + 1) items chains ≡ failed (ChainBreak k computed stated)) ↔ Broken (n + 1) k items chains computed stated → (t : Bool) → bytes_eq chain.input below.imprint ≡ t
-        → ((need t (ChainBreak n below.imprint chain.input) >> unbroken (n + 1) items chains) ≡ failed (ChainBreak k computed stated)) ↔ Broken n k (below ∷ items) (chain ∷ chains) computed stated
+    of : (unbroken (n + 1) nodes chains ≡ failed (ChainBreak k computed stated)) ↔ Broken (n + 1) k nodes chains computed stated → (t : Bool) → bytes_eq chain.input below.imprint ≡ t
+        → ((need t (ChainBreak n below.imprint chain.input) >> unbroken (n + 1) nodes chains) ≡ failed (ChainBreak k computed stated)) ↔ Broken n k (below ∷ nodes) (chain ∷ chains) computed stated
     of higher true e =
         let same = d.0 e in
-        (λ f. (let at = higher.0 f in (suc at.0, omega (arith, at.1), pushed below items chain chains computed stated at.0 same at.2)), λ h. back higher same h.0 h.1 h.2)
+        (λ f. (let at = higher.0 f in (suc at.0, omega (arith, at.1), pushed below nodes chain chains computed stated at.0 same at.2)), λ h. back higher same h.0 h.1 h.2)
     of higher false e =
         let other = not_from_Decides (bytes_eq chain.input below.imprint) d e in
-        (λ f. (let a : n ≡ k = cc in let b : below.imprint ≡ computed = cc in let c : chain.input ≡ stated = cc in (0, omega (arith, a), here below items chain chains computed stated other (sym b) (sym c))), λ h. stop other h.0 h.1 h.2)
+        (λ f. (let a : n ≡ k = cc in let b : below.imprint ≡ computed = cc in let c : chain.input ≡ stated = cc in (0, omega (arith, a), here below nodes chain chains computed stated other (sym b) (sym c))), λ h. stop other h.0 h.1 h.2)
 
 -- ---- of all chains
 
@@ -153,24 +153,24 @@ module _ (image : List ℕ → List ℕ) where
 
   module _ (climbs : (start top : Node) (links : List PlainLink) → (climbed image 0 start links ≡ Ok top) ↔ Climbs image start links top) (chains : List PlainChain) (k : ℕ) (computed stated : List ℕ) where
     abbrev after : List Node → Result Node Refusal
-    after items = unbroken 1 items (higher_chains chains) >> good (last_item (at_level_zero zero_imprint) items)
+    after nodes = unbroken 1 nodes (higher_chains chains) >> good (last_node (at_level_zero zero_imprint) nodes)
 
     there : (j : ℕ) → k ≡ j + 1 → slice_get (higher_chains chains) j ≡ slice_get chains k
     there j is = higher_at chains j ∙ ap (slice_get chains) (sym is)
 
     fails : (r : Result (List Node) Refusal) → tops image 0 0 chains ≡ r → (r >>= after) ≡ ends (ChainBreak k computed stated) → BreaksAt image chains k computed stated
-    fails (Ok items) is e =
-        let at = (breaks_both 1 items (higher_chains chains) k computed stated).0 ((then_fails (unbroken 1 items (higher_chains chains)) (last_item (at_level_zero zero_imprint) items) (ChainBreak k computed stated)).0 e) in
+    fails (Ok nodes) is e =
+        let at = (breaks_both 1 nodes (higher_chains chains) k computed stated).0 ((then_fails (unbroken 1 nodes (higher_chains chains)) (last_node (at_level_zero zero_imprint) nodes) (ChainBreak k computed stated)).0 e) in
         let j = at.0 in
         let above : k ≡ j + 1 = omega (arith, at.1) in
         let f = at.2 in
         record {
-          items = items;
-          tops = (tops_both image climbs 0 0 chains items).0 is;
+          nodes = nodes;
+          tops = (tops_both image climbs 0 0 chains nodes).0 is;
           below = j;
           above = above;
-          item = f.item;
-          has_item = f.has_item;
+          node = f.node;
+          has_node = f.has_node;
           chain = f.chain;
           has_chain = sym (there j above) ∙ f.has_chain;
           is_computed = f.is_computed;
@@ -182,19 +182,19 @@ module _ (image : List ℕ → List ℕ) where
 
     comes : BreaksAt image chains k computed stated → joined_chains image chains ≡ ends (ChainBreak k computed stated)
     comes h =
-        let is = (tops_both image climbs 0 0 chains h.items).1 h.tops in
-        let f : FirstBreak h.items (higher_chains chains) h.below computed stated = record {
-          item = h.item;
+        let is = (tops_both image climbs 0 0 chains h.nodes).1 h.tops in
+        let f : FirstBreak h.nodes (higher_chains chains) h.below computed stated = record {
+          node = h.node;
           chain = h.chain;
-          has_item = h.has_item;
+          has_node = h.has_node;
           has_chain = there h.below h.above ∙ h.has_chain;
           is_computed = h.is_computed;
           is_stated = h.is_stated;
           differ = h.differ;
           first = λ i other next lt a b. h.first i other next lt a (sym (higher_at chains i) ∙ b);
         } in
-        let broken = (breaks_both 1 h.items (higher_chains chains) k computed stated).1 (h.below, omega (arith, h.above), f) in
-        ap (λ (r : Result (List Node) Refusal). r >>= after) is ∙ (then_fails (unbroken 1 h.items (higher_chains chains)) (last_item (at_level_zero zero_imprint) h.items) (ChainBreak k computed stated)).1 broken
+        let broken = (breaks_both 1 h.nodes (higher_chains chains) k computed stated).1 (h.below, omega (arith, h.above), f) in
+        ap (λ (r : Result (List Node) Refusal). r >>= after) is ∙ (then_fails (unbroken 1 h.nodes (higher_chains chains)) (last_node (at_level_zero zero_imprint) h.nodes) (ChainBreak k computed stated)).1 broken
 
     pub joined_broken : (joined_chains image chains ≡ ends (ChainBreak k computed stated)) ↔ BreaksAt image chains k computed stated
     joined_broken = (λ e. fails (tops image 0 0 chains) refl e, comes)

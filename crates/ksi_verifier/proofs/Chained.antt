@@ -17,7 +17,7 @@ use Rattle.ksi_verifier.specs.declared.refusal.Refusal.TheVariants.{IndexOrder, 
 use Rattle.ksi_verifier.specs.Checks.{◌>>=◌, ◌>>◌, need}
 use Rattle.ksi_signature.specs.Heads.{last_part}
 use Rattle.ksi_verifier.specs.Chains.{PlainChain, plain_chain, plain_chains, first_chain, higher_chains, at_level_zero, without_last, chain_shape}
-use Rattle.ksi_verifier.specs.ChainChecks.{same_parts, index_order, index_shape, index_shapes, or_level, top_of, tops, unbroken, last_item, joined_chains, same_time, same_times, or_bare, none_bare, no_bare_links, chains_checked}
+use Rattle.ksi_verifier.specs.ChainChecks.{same_parts, index_order, index_shape, index_shapes, or_level, top_of, tops, unbroken, last_node, joined_chains, same_time, same_times, or_bare, none_bare, no_bare_links, chains_checked}
 use Rattle.ksi_verifier.specs.Accepted.{AreNested, ChainsLead, IsAggregated}
 use Rattle.ksi_verifier.proofs.Passing.{Passes, good, ok_is, bind_both, then_both, need_same, need_equal, each_both, both_then}
 use Rattle.ksi_verifier.proofs.Loops.{links_from, start_joins}
@@ -92,7 +92,7 @@ module _ (image : List ℕ → List ℕ) (climbs : (start top : Node) (links : L
       let climb = climbs (from_input chain level) top chain.links in
       (λ e. climb.0 (named.0 e), λ h. named.1 (climb.1 h))
 
-  -- from the item below the chains from k on
+  -- from the node below the chains from k on
   pub lead_both : (k : ℕ) (below : Node) (chains : List PlainChain) (top : Node) → (links_from image k None below chains ≡ Ok top) ↔ ChainsLead image below chains top
   lead_both k below [] top = (λ e. ok_is below top e, λ is. ap good is)
   lead_both k below (chain ∷ chains) top = (forward (λ next. lead_both (k + 1) next chains top), backward (λ next. lead_both (k + 1) next chains top))
@@ -113,15 +113,15 @@ module _ (image : List ℕ → List ℕ) (climbs : (start top : Node) (links : L
       more next = tops image (k + 1) next.level chains
 
       ends : List Node → Result Node Refusal
-      ends items = unbroken k (below ∷ items) (chain ∷ chains) >> Ok (last_item below items)
+      ends nodes = unbroken k (below ∷ nodes) (chain ∷ chains) >> Ok (last_node below nodes)
 
       -- the same with the first chain apart
-      moved : (next : Node) (r : Result (List Node) Refusal) → (put next r >>= ends) ≡ (r >>= λ higher. ((joins >> above next higher) >> good (last_item next higher)))
+      moved : (next : Node) (r : Result (List Node) Refusal) → (put next r >>= ends) ≡ (r >>= λ higher. ((joins >> above next higher) >> good (last_node next higher)))
       moved next (Ok higher) = refl
       moved next (Err refusal) = refl
 
       apart : (next : Node) → top_of image k below.level chain ≡ Ok next
-          → links_from image k None below (chain ∷ chains) ≡ (more next >>= λ higher. ((joins >> above next higher) >> good (last_item next higher)))
+          → links_from image k None below (chain ∷ chains) ≡ (more next >>= λ higher. ((joins >> above next higher) >> good (last_node next higher)))
       apart next e = ap (λ (r : Result Node Refusal). (r >>= λ x. put x (more x)) >>= ends) e ∙ moved next (more next)
 
       start : chain.input ≡ below.imprint → from_input chain below.level ≡ below
@@ -135,24 +135,24 @@ module _ (image : List ℕ → List ℕ) (climbs : (start top : Node) (links : L
           let all = (bind_both (top_of image k below.level chain >>= λ x. put x (more x)) ends top).0 e in
           let first = (bind_both (top_of image k below.level chain) (λ x. put x (more x)) all.0).0 all.1 in
           let next = first.0 in
-          let rest = (bind_both (more next) (λ higher. ((joins >> above next higher) >> good (last_item next higher))) top).0 (sym (apart next first.1) ∙ e) in
+          let rest = (bind_both (more next) (λ higher. ((joins >> above next higher) >> good (last_node next higher))) top).0 (sym (apart next first.1) ∙ e) in
           let higher = rest.0 in
-          let checks = (then_both (joins >> above next higher) (good (last_item next higher)) top).0 rest.2 in
+          let checks = (then_both (joins >> above next higher) (good (last_node next higher)) top).0 rest.2 in
           let both = (then_both joins (above next higher) tt).0 checks.0 in
           let same = joins_both.0 both.0 in
-          let leads = (bind_both (more next) (λ items. (above next items >> good (last_item next items))) top).1 (higher, rest.1, (then_both (above next higher) (good (last_item next higher)) top).1 (both.1, checks.1)) in
+          let leads = (bind_both (more next) (λ nodes. (above next nodes >> good (last_node next nodes))) top).1 (higher, rest.1, (then_both (above next higher) (good (last_node next higher)) top).1 (both.1, checks.1)) in
           (next, same, subst (λ (from : Node). Climbs image from chain.links next) (start same) ((top_both k below.level chain next).0 first.1), (higher_both next).0 leads)
 
       backward : Higher → ChainsLead image below (chain ∷ chains) top → links_from image k None below (chain ∷ chains) ≡ Ok top
       backward higher_both h =
           let next = h.0 in
           let first = (top_both k below.level chain next).1 (subst (λ (from : Node). Climbs image from chain.links next) (sym (start h.1)) h.2) in
-          let rest = (bind_both (more next) (λ items. (above next items >> good (last_item next items))) top).0 ((higher_both next).1 h.3) in
+          let rest = (bind_both (more next) (λ nodes. (above next nodes >> good (last_node next nodes))) top).0 ((higher_both next).1 h.3) in
           let higher = rest.0 in
-          let checks = (then_both (above next higher) (good (last_item next higher)) top).0 rest.2 in
+          let checks = (then_both (above next higher) (good (last_node next higher)) top).0 rest.2 in
           let both = (then_both joins (above next higher) tt).1 (joins_both.1 h.1, checks.0) in
           apart next first
-          ∙ (bind_both (more next) (λ items. ((joins >> above next items) >> good (last_item next items))) top).1 (higher, rest.1, (then_both (joins >> above next higher) (good (last_item next higher)) top).1 (both, checks.1))
+          ∙ (bind_both (more next) (λ nodes. ((joins >> above next nodes) >> good (last_node next nodes))) top).1 (higher, rest.1, (then_both (joins >> above next higher) (good (last_node next higher)) top).1 (both, checks.1))
 
   pub joined_both : (chain : PlainChain) (chains : List PlainChain) (top : Node) → (joined_chains image (chain ∷ chains) ≡ Ok top) ↔ ChainsLead image (at_level_zero chain.input) (chain ∷ chains) top
   joined_both chain chains top =
@@ -165,7 +165,7 @@ module _ (image : List ℕ → List ℕ) (climbs : (start top : Node) (links : L
   some_joined (chain ∷ chains) top some = joined_both chain chains top
 
   pub chains_both : (chains : List PlainChain) (aggregation : Aggregated) → 0 < length chains
-      → (chains_checked image chains ≡ Ok aggregation) ↔ IsAggregated image chains (first_chain chains).input aggregation.time aggregation.item
+      → (chains_checked image chains ≡ Ok aggregation) ↔ IsAggregated image chains (first_chain chains).input aggregation.time aggregation.node
   chains_both [] aggregation some = absurd (omega (arith, some))
   chains_both (chain ∷ chains) aggregation some = (forward, backward)
     where
@@ -176,20 +176,20 @@ module _ (image : List ℕ → List ℕ) (climbs : (start top : Node) (links : L
       order = index_order 0 chain chains
 
       named : Node → Result Aggregated Refusal
-      named item = no_bare_links 0 all >> Ok (record { time = chain.time; item = item })
+      named node = no_bare_links 0 all >> Ok (record { time = chain.time; node = node })
 
       timed : Node → Result Aggregated Refusal
-      timed item = same_times chain.time 0 all >> named item
+      timed node = same_times chain.time 0 all >> named node
 
-      forward : chains_checked image all ≡ Ok aggregation → IsAggregated image all chain.input aggregation.time aggregation.item
+      forward : chains_checked image all ≡ Ok aggregation → IsAggregated image all chain.input aggregation.time aggregation.node
       forward e =
           let first = (then_both order (index_shapes 0 all >> (joined_chains image all >>= timed)) aggregation).0 e in
           let second = (then_both (index_shapes 0 all) (joined_chains image all >>= timed) aggregation).0 first.1 in
           let third = (bind_both (joined_chains image all) timed aggregation).0 second.1 in
           let fourth = (then_both (same_times chain.time 0 all) (named third.0) aggregation).0 third.2 in
-          let last = (then_both (no_bare_links 0 all) (good (record { time = chain.time; item = third.0 })) aggregation).0 fourth.1 in
-          let is : record { time = chain.time; item = third.0 } ≡ aggregation = ok_is _ aggregation last.1 in
-          subst (λ (a : Aggregated). IsAggregated image all chain.input a.time a.item) is (record {
+          let last = (then_both (no_bare_links 0 all) (good (record { time = chain.time; node = third.0 })) aggregation).0 fourth.1 in
+          let is : record { time = chain.time; node = third.0 } ≡ aggregation = ok_is _ aggregation last.1 in
+          subst (λ (a : Aggregated). IsAggregated image all chain.input a.time a.node) is (record {
             some = some;
             order = (order_both 0 chain chains).0 first.0;
             shapes = (shapes_both all).0 second.0;
@@ -198,13 +198,13 @@ module _ (image : List ℕ → List ℕ) (climbs : (start top : Node) (links : L
             named = (bare_both all).0 last.0;
           })
 
-      backward : IsAggregated image all chain.input aggregation.time aggregation.item → chains_checked image all ≡ Ok aggregation
+      backward : IsAggregated image all chain.input aggregation.time aggregation.node → chains_checked image all ≡ Ok aggregation
       backward h =
           let time : chain.time ≡ aggregation.time = h.times.0 in
           let times = (times_both chain.time all).1 (subst (λ (first : ℕ). AllByRecursion (λ (c : PlainChain). c.time ≡ first) all) (sym time) h.times) in
-          let is : record { time = chain.time; item = aggregation.item } ≡ aggregation = ap (λ (first : ℕ). record { time = first; item = aggregation.item }) time in
-          let last = (then_both (no_bare_links 0 all) (good (record { time = chain.time; item = aggregation.item })) aggregation).1 ((bare_both all).1 h.named, ap good is) in
-          let fourth = (then_both (same_times chain.time 0 all) (named aggregation.item) aggregation).1 (times, last) in
-          let third = (bind_both (joined_chains image all) timed aggregation).1 (aggregation.item, (joined_both chain chains aggregation.item).1 h.lead, fourth) in
+          let is : record { time = chain.time; node = aggregation.node } ≡ aggregation = ap (λ (first : ℕ). record { time = first; node = aggregation.node }) time in
+          let last = (then_both (no_bare_links 0 all) (good (record { time = chain.time; node = aggregation.node })) aggregation).1 ((bare_both all).1 h.named, ap good is) in
+          let fourth = (then_both (same_times chain.time 0 all) (named aggregation.node) aggregation).1 (times, last) in
+          let third = (bind_both (joined_chains image all) timed aggregation).1 (aggregation.node, (joined_both chain chains aggregation.node).1 h.lead, fourth) in
           let second = (then_both (index_shapes 0 all) (joined_chains image all >>= timed) aggregation).1 ((shapes_both all).1 h.shapes, third) in
           (then_both order (index_shapes 0 all >> (joined_chains image all >>= timed)) aggregation).1 ((order_both 0 chain chains).1 h.order, second)

@@ -57,9 +57,9 @@ put_err top (Ok higher) refusal = (λ e. absurd cc, λ e. absurd cc)
 put_err top (Err other) refusal = (λ e. let is : other ≡ refusal = cc in ap bad is, λ e. let is : other ≡ refusal = cc in ap bad is)
 
 module _ (image : List ℕ → List ℕ) (climbs : (start top : Node) (links : List PlainLink) → (climbed image 0 start links ≡ Ok top) ↔ Climbs image start links top) where
-  pub tops_both : (k level : ℕ) (chains : List PlainChain) (items : List Node) → (tops image k level chains ≡ Ok items) ↔ HaveTops image level chains items
+  pub tops_both : (k level : ℕ) (chains : List PlainChain) (nodes : List Node) → (tops image k level chains ≡ Ok nodes) ↔ HaveTops image level chains nodes
   tops_both k level [] [] = (λ e. tt, λ h. refl)
-  tops_both k level [] (top ∷ items) = (λ e. absurd cc, λ h. absurd h)
+  tops_both k level [] (top ∷ nodes) = (λ e. absurd cc, λ h. absurd h)
   tops_both k level (chain ∷ chains) [] = (none, λ h. absurd h)
     where
       none : tops image k level (chain ∷ chains) ≡ Ok [] → ⊥
@@ -67,29 +67,29 @@ module _ (image : List ℕ → List ℕ) (climbs : (start top : Node) (links : L
           let first = (bind_both (top_of image k level chain) (λ top. tops image (k + 1) top.level chains >>= λ higher. good (top ∷ higher)) []).0 e in
           let rest = (bind_both (tops image (k + 1) first.0.level chains) (λ higher. good (first.0 ∷ higher)) []).0 first.2 in
           let is = rest.2 in cc
-  tops_both k level (chain ∷ chains) (top ∷ items) = (forward (tops_both (k + 1) top.level chains items), backward (tops_both (k + 1) top.level chains items))
+  tops_both k level (chain ∷ chains) (top ∷ nodes) = (forward (tops_both (k + 1) top.level chains nodes), backward (tops_both (k + 1) top.level chains nodes))
     where
       next : Node → Result (List Node) Refusal
       next x = tops image (k + 1) x.level chains >>= λ higher. good (x ∷ higher)
 
-      forward : (tops image (k + 1) top.level chains ≡ Ok items) ↔ HaveTops image top.level chains items → tops image k level (chain ∷ chains) ≡ Ok (top ∷ items) → HaveTops image level (chain ∷ chains) (top ∷ items)
+      forward : (tops image (k + 1) top.level chains ≡ Ok nodes) ↔ HaveTops image top.level chains nodes → tops image k level (chain ∷ chains) ≡ Ok (top ∷ nodes) → HaveTops image level (chain ∷ chains) (top ∷ nodes)
       forward higher e =
-          let first = (bind_both (top_of image k level chain) next (top ∷ items)).0 e in
+          let first = (bind_both (top_of image k level chain) next (top ∷ nodes)).0 e in
           let x = first.0 in
-          let rest = (bind_both (tops image (k + 1) x.level chains) (λ above. good (x ∷ above)) (top ∷ items)).0 first.2 in
-          let same : x ∷ rest.0 ≡ top ∷ items = ok_is (x ∷ rest.0) (top ∷ items) rest.2 in
+          let rest = (bind_both (tops image (k + 1) x.level chains) (λ above. good (x ∷ above)) (top ∷ nodes)).0 first.2 in
+          let same : x ∷ rest.0 ≡ top ∷ nodes = ok_is (x ∷ rest.0) (top ∷ nodes) rest.2 in
           let is : x ≡ top = cc in
-          let others : rest.0 ≡ items = cc in
+          let others : rest.0 ≡ nodes = cc in
           let reached : top_of image k level chain ≡ Ok top = first.1 ∙ ap good is in
-          let above : tops image (k + 1) top.level chains ≡ Ok items = ap (λ (y : Node). tops image (k + 1) y.level chains) (sym is) ∙ (rest.1 ∙ ap good others) in
+          let above : tops image (k + 1) top.level chains ≡ Ok nodes = ap (λ (y : Node). tops image (k + 1) y.level chains) (sym is) ∙ (rest.1 ∙ ap good others) in
           ((top_both image climbs k level chain top).0 reached, higher.0 above)
 
-      backward : (tops image (k + 1) top.level chains ≡ Ok items) ↔ HaveTops image top.level chains items → HaveTops image level (chain ∷ chains) (top ∷ items) → tops image k level (chain ∷ chains) ≡ Ok (top ∷ items)
+      backward : (tops image (k + 1) top.level chains ≡ Ok nodes) ↔ HaveTops image top.level chains nodes → HaveTops image level (chain ∷ chains) (top ∷ nodes) → tops image k level (chain ∷ chains) ≡ Ok (top ∷ nodes)
       backward higher h =
           let reached = (top_both image climbs k level chain top).1 h.0 in
-          (bind_both (top_of image k level chain) next (top ∷ items)).1 (top, reached, (bind_both (tops image (k + 1) top.level chains) (λ above. good (top ∷ above)) (top ∷ items)).1 (items, higher.1 h.1, refl))
+          (bind_both (top_of image k level chain) next (top ∷ nodes)).1 (top, reached, (bind_both (tops image (k + 1) top.level chains) (λ above. good (top ∷ above)) (top ∷ nodes)).1 (nodes, higher.1 h.1, refl))
 
--- chains of which the first leads to an item, one number lower
+-- chains of which the first leads to a node, one number lower
 shifted : (level : ℕ) (chain : PlainChain) (chains : List PlainChain) (j place high next : ℕ) → next ≡ level_after level chain.links → PassesIn next chains j place high → PassesIn level (chain ∷ chains) (suc j) place high
 shifted level chain chains j place high next is h =
     let same = level_shift level chain chains j ∙ ap (λ (l : ℕ). level_before l chains j) (sym is) in
@@ -126,15 +126,15 @@ passes_here level chain chains place high h =
 module _ (image : List ℕ → List ℕ) (climbs : (start top : Node) (links : List PlainLink) → (climbed image 0 start links ≡ Ok top) ↔ Climbs image start links top)
     (over : (start : Node) (links : List PlainLink) (place high : ℕ) → (climbed image 0 start links ≡ Err (Over place high)) ↔ PassesLevels start.level links place high)
     (rise : (start top : Node) (links : List PlainLink) → Climbs image start links top → top.level ≡ level_after start.level links) where
-  low_top : (place : ℕ) (links : List PlainLink) (item top : Node) → item.level ≤ 255 → climbed image place item links ≡ Ok top → top.level ≤ 255
-  low_top place [] item top low e = let is : item ≡ top = cc in subst (λ (y : Node). y.level ≤ 255) is low
-  low_top place (link ∷ links) item top low e = of (low_top (place + 1) links (above image item link) top) (nat_lt 255 (level_above item.level link)) refl e
+  low_top : (place : ℕ) (links : List PlainLink) (node top : Node) → node.level ≤ 255 → climbed image place node links ≡ Ok top → top.level ≤ 255
+  low_top place [] node top low e = let is : node ≡ top = cc in subst (λ (y : Node). y.level ≤ 255) is low
+  low_top place (link ∷ links) node top low e = of (low_top (place + 1) links (above image node link) top) (nat_lt 255 (level_above node.level link)) refl e
     where
       next : Node
-      next = above image item link
+      next = above image node link
 
-      of : (next.level ≤ 255 → climbed image (place + 1) next links ≡ Ok top → top.level ≤ 255) → (t : Bool) → nat_lt 255 (level_above item.level link) ≡ t
-          → (if t then Err (Over place (level_above item.level link)) else climbed image (place + 1) next links) ≡ Ok top → top.level ≤ 255
+      of : (next.level ≤ 255 → climbed image (place + 1) next links ≡ Ok top → top.level ≤ 255) → (t : Bool) → nat_lt 255 (level_above node.level link) ≡ t
+          → (if t then Err (Over place (level_above node.level link)) else climbed image (place + 1) next links) ≡ Ok top → top.level ≤ 255
       of rest true is e = absurd cc
       of rest false is e = rest (ltb-false _ _ is) e
 

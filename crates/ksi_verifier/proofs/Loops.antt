@@ -14,7 +14,7 @@ use Rattle.ksi_verifier.specs.declared.refusal.Refusal.{Refusal}
 use Rattle.ksi_verifier.specs.declared.refusal.Refusal.TheVariants.{ChainBreak}
 use Rattle.ksi_verifier.specs.Checks.{◌>>=◌, ◌>>◌, need}
 use Rattle.ksi_verifier.specs.Chains.{PlainChain, first_chain, higher_chains, at_level_zero}
-use Rattle.ksi_verifier.specs.ChainChecks.{index_order, top_of, tops, unbroken, last_item, joined_chains}
+use Rattle.ksi_verifier.specs.ChainChecks.{index_order, top_of, tops, unbroken, last_node, joined_chains}
 use Rattle.ksi_verifier.specs.Folding.{or_break}
 
 -- the members from k on
@@ -43,9 +43,9 @@ abbrev pub settled : Option Refusal → Result Node Refusal → Result Node Refu
 settled None rest = rest
 settled (Some refusal) rest = Err refusal
 
--- the chains from k on, from the item below them and the break found so far
+-- the chains from k on, from the node below them and the break found so far
 abbrev pub links_from : (List ℕ → List ℕ) → ℕ → Option Refusal → Node → List PlainChain → Result Node Refusal
-links_from image k broken below chains = tops image k below.level chains >>= λ items. settled broken (unbroken k (below ∷ items) chains >> Ok (last_item below items))
+links_from image k broken below chains = tops image k below.level chains >>= λ nodes. settled broken (unbroken k (below ∷ nodes) chains >> Ok (last_node below nodes))
 
 same_bytes : (xs : List ℕ) → bytes_eq xs xs ≡ true
 same_bytes xs = (bytes_eq-Decides xs xs).1 refl
@@ -70,14 +70,14 @@ module _ (image : List ℕ → List ℕ) where
       higher_tops top = tops image 1 top.level rest >>= λ higher. Ok (top ∷ higher)
 
       of_higher : (top : Node) (r : Result (List Node) Refusal)
-          → ((r >>= λ higher. Ok (top ∷ higher)) >>= λ items. settled None (unbroken 0 (start ∷ items) (chain ∷ rest) >> Ok (last_item start items)))
-          ≡ ((r >>= λ higher. Ok (top ∷ higher)) >>= λ items. unbroken 1 items rest >> Ok (last_item (at_level_zero zero_imprint) items))
-      of_higher top (Ok higher) = ap (λ (b : Bool). (need b (ChainBreak 0 chain.input chain.input) >> unbroken 1 (top ∷ higher) rest) >> Ok (last_item top higher)) (same_bytes chain.input)
+          → ((r >>= λ higher. Ok (top ∷ higher)) >>= λ nodes. settled None (unbroken 0 (start ∷ nodes) (chain ∷ rest) >> Ok (last_node start nodes)))
+          ≡ ((r >>= λ higher. Ok (top ∷ higher)) >>= λ nodes. unbroken 1 nodes rest >> Ok (last_node (at_level_zero zero_imprint) nodes))
+      of_higher top (Ok higher) = ap (λ (b : Bool). (need b (ChainBreak 0 chain.input chain.input) >> unbroken 1 (top ∷ higher) rest) >> Ok (last_node top higher)) (same_bytes chain.input)
       of_higher top (Err refusal) = refl
 
       of : (r : Result Node Refusal)
-          → ((r >>= higher_tops) >>= λ items. settled None (unbroken 0 (start ∷ items) (chain ∷ rest) >> Ok (last_item start items)))
-          ≡ ((r >>= higher_tops) >>= λ items. unbroken 1 items rest >> Ok (last_item (at_level_zero zero_imprint) items))
+          → ((r >>= higher_tops) >>= λ nodes. settled None (unbroken 0 (start ∷ nodes) (chain ∷ rest) >> Ok (last_node start nodes)))
+          ≡ ((r >>= higher_tops) >>= λ nodes. unbroken 1 nodes rest >> Ok (last_node (at_level_zero zero_imprint) nodes))
       of (Ok top) = of_higher top (tops image 1 top.level rest)
       of (Err refusal) = refl
 
@@ -95,11 +95,11 @@ module _ (image : List ℕ → List ℕ) where
   links_go k broken broken' below next stated chain chains rest all climbed is input b climbs reached so_far =
       ap (λ (o : Option Refusal). links_from image (k + 1) o next rest) (b ∙ ap (or_break broken k below.imprint) input)
       ∙ of (tops image (k + 1) next.level rest)
-      ∙ ap (λ (r : Result Node Refusal). (r >>= λ top. tops image (k + 1) top.level rest >>= λ higher. Ok (top ∷ higher)) >>= λ items. settled broken (unbroken k (below ∷ items) (chain ∷ rest) >> Ok (last_item below items))) (sym reached ∙ climbs)
+      ∙ ap (λ (r : Result Node Refusal). (r >>= λ top. tops image (k + 1) top.level rest >>= λ higher. Ok (top ∷ higher)) >>= λ nodes. settled broken (unbroken k (below ∷ nodes) (chain ∷ rest) >> Ok (last_node below nodes))) (sym reached ∙ climbs)
       ∙ ap (links_from image k broken below) (sym is) ∙ so_far
     where
       of : (r : Result (List Node) Refusal)
-          → (r >>= λ items. settled (or_break broken k below.imprint chain.input) (unbroken (k + 1) (next ∷ items) rest >> Ok (last_item next items)))
-          ≡ ((r >>= λ higher. Ok (next ∷ higher)) >>= λ items. settled broken (unbroken k (below ∷ items) (chain ∷ rest) >> Ok (last_item below items)))
-      of (Ok higher) = break_settles broken k below.imprint chain.input (unbroken (k + 1) (next ∷ higher) rest) (Ok (last_item next higher))
+          → (r >>= λ nodes. settled (or_break broken k below.imprint chain.input) (unbroken (k + 1) (next ∷ nodes) rest >> Ok (last_node next nodes)))
+          ≡ ((r >>= λ higher. Ok (next ∷ higher)) >>= λ nodes. settled broken (unbroken k (below ∷ nodes) (chain ∷ rest) >> Ok (last_node below nodes)))
+      of (Ok higher) = break_settles broken k below.imprint chain.input (unbroken (k + 1) (next ∷ higher) rest) (Ok (last_node next higher))
       of (Err refusal) = refl

@@ -6,17 +6,19 @@ use Rattle.ksi_signature.specs.declared.signature.Signature.{Signature}
 use Rattle.ksi_signature.specs.File.{IsSignature}
 use Rattle.ksi_publications.specs.declared.fault.PublicationsFault.{PublicationsFault}
 use Rattle.ksi_publications.specs.File.{IsPublications}
-use Rattle.ksi_verifier.specs.declared.verdict.Verdict.{Verdict}
-use Rattle.ksi_verifier.specs.declared.verdict.Verdict.TheVariants as verdicts
-use Rattle.ksi_verifier.specs.Verdict.{verdict}
-use Rattle.ksi_verifier.specs.Accepted.{IsAccepted}
+use Rattle.ksi_verifier.specs.declared.proved.Proved.{Proved}
+use Rattle.ksi_verifier.specs.declared.refusal.Refusal.{Refusal}
+use Rattle.ksi_verifier.specs.Verdict.{signature_checked}
+use Rattle.ksi_verifier.specs.Accepted.{IsProved}
 use Rattle.ksi_verifier.specs.declared.files_verdict.FilesVerdict.TheVariants.{Accepted}
-use Rattle.ksi_verifier.specs.Files.{IsVerified, files_verdict, of_verdict}
+use Rattle.ksi_verifier.specs.Files.{IsVerified, files_verdict, of_checked}
 
-of_accepted : (v : Verdict) (t : ℕ) → (of_verdict v ≡ Accepted t) ↔ (v ≡ verdicts.Accepted t)
-of_accepted (verdicts.Accepted second) t =
-    (λ e. (let same : second ≡ t = cc in ap (λ (t : ℕ). verdicts.Accepted t) same), λ e. (let same : second ≡ t = cc in ap (λ (t : ℕ). Accepted t) same))
-of_accepted (verdicts.Refused refusal) t = (λ e. absurd cc, λ e. absurd cc)
+abbrev good : Proved → Result Proved Refusal
+good p = Ok p
+
+of_accepted : (r : Result Proved Refusal) (p : Proved) → (of_checked r ≡ Accepted p) ↔ (r ≡ Ok p)
+of_accepted (Ok proved) p = (λ e. (let same : proved ≡ p = cc in ap good same), λ e. (let same : proved ≡ p = cc in ap (λ (p : Proved). Accepted p) same))
+of_accepted (Err refusal) p = (λ e. absurd cc, λ e. absurd cc)
 
 abbrev Signatures : List ℕ → Result Signature SignatureFault → Type 0
 Signatures bytes read = (signature : Signature) → (read ≡ Ok signature) ↔ IsSignature bytes signature
@@ -24,23 +26,23 @@ Signatures bytes read = (signature : Signature) → (read ≡ Ok signature) ↔ 
 abbrev Pairs : List ℕ → Result (List (ℕ × List ℕ)) PublicationsFault → Type 0
 Pairs bytes read = (pairs : List (ℕ × List ℕ)) → (read ≡ Ok pairs) ↔ IsPublications bytes pairs
 
-abbrev Verdicts : (List ℕ → List ℕ) → List ℕ → ℕ → Type 0
-Verdicts image hash t = (signature : Signature) (pairs : List (ℕ × List ℕ)) → (verdict image signature hash pairs ≡ verdicts.Accepted t) ↔ IsAccepted image signature hash pairs t
+abbrev Verdicts : (List ℕ → List ℕ) → List ℕ → Proved → Type 0
+Verdicts image hash p = (signature : Signature) (pairs : List (ℕ × List ℕ)) → (signature_checked image signature hash pairs ≡ Ok p) ↔ IsProved image signature hash pairs p
 
-pub verified : (image : List ℕ → List ℕ) (signature hash publications : List ℕ) (t : ℕ) (one : Result Signature SignatureFault) (two : Result (List (ℕ × List ℕ)) PublicationsFault)
-    → Signatures signature one → Pairs publications two → Verdicts image hash t
-    → (files_verdict image one two hash ≡ Accepted t) ↔ IsVerified image signature hash publications t
-verified image signature hash publications t (Ok s) (Ok ps) signatures pairs accepted =
-    let both = of_accepted (verdict image s hash ps) t in (
+pub verified : (image : List ℕ → List ℕ) (signature hash publications : List ℕ) (p : Proved) (one : Result Signature SignatureFault) (two : Result (List (ℕ × List ℕ)) PublicationsFault)
+    → Signatures signature one → Pairs publications two → Verdicts image hash p
+    → (files_verdict image one two hash ≡ Accepted p) ↔ IsVerified image signature hash publications p
+verified image signature hash publications p (Ok s) (Ok ps) signatures pairs accepted =
+    let both = of_accepted (signature_checked image s hash ps) p in (
       λ e. record { read = s; signature_is = (signatures s).0 refl; pairs = ps; publications_are = (pairs ps).0 refl; accepted = (accepted s ps).0 (both.0 e) },
       λ is.
           let left = (signatures is.read).1 is.signature_is in
           let right = (pairs is.pairs).1 is.publications_are in
           let same : is.read ≡ s = cc in
           let equal : is.pairs ≡ ps = cc in
-          both.1 (subst (λ (s : Signature). verdict image s hash ps ≡ verdicts.Accepted t) same (subst (λ (ps : List (ℕ × List ℕ)). verdict image is.read hash ps ≡ verdicts.Accepted t) equal ((accepted is.read is.pairs).1 is.accepted))),
+          both.1 (subst (λ (s : Signature). signature_checked image s hash ps ≡ Ok p) same (subst (λ (ps : List (ℕ × List ℕ)). signature_checked image is.read hash ps ≡ Ok p) equal ((accepted is.read is.pairs).1 is.accepted))),
     )
-verified image signature hash publications t (Ok s) (Err fault) signatures pairs accepted =
+verified image signature hash publications p (Ok s) (Err fault) signatures pairs accepted =
     (λ e. absurd cc, λ is. (let right = (pairs is.pairs).1 is.publications_are in absurd cc))
-verified image signature hash publications t (Err fault) two signatures pairs accepted =
+verified image signature hash publications p (Err fault) two signatures pairs accepted =
     (λ e. absurd cc, λ is. (let left = (signatures is.read).1 is.signature_is in absurd cc))

@@ -18,15 +18,15 @@ use Rattle.ksi_signature.specs.Heads.{last_part}
 
 -- ---- V2: the index of each next chain is that of the chain below it without its last part
 
--- two lists of parts are equal, the one made of chain k's index, the other the index of the chain above it; a list that
--- has ended has no part
+-- two lists of parts are equal: one from chain k's index, the other the index of the chain above it; a list that has
+-- ended has no part
 abbrev pub same_parts : ℕ → ℕ → List ℕ → List ℕ → Result (Unit {0}) Refusal
 same_parts k place [] [] = Ok tt
 same_parts k place (a ∷ lower) [] = Err (IndexOrder k place (Some a) None)
 same_parts k place [] (b ∷ higher) = Err (IndexOrder k place None (Some b))
 same_parts k place (a ∷ lower) (b ∷ higher) = if a == b then same_parts k (place + 1) lower higher else Err (IndexOrder k place (Some a) (Some b))
 
--- of the chains from k on, the lowest of which is given by itself
+-- the same for the chains from k on; the lowest is a parameter of its own
 abbrev pub index_order : ℕ → PlainChain → List PlainChain → Result (Unit {0}) Refusal
 index_order k below [] = Ok tt
 index_order k below (chain ∷ chains) = same_parts k 0 (without_last below.index) chain.index >> index_order (k + 1) chain chains
@@ -45,11 +45,11 @@ abbrev pub or_level : ℕ → Result Node LevelFault → Result Node Refusal
 or_level k (Ok top) = Ok top
 or_level k (Err (Over link level)) = Err (Level k link level)
 
--- the item that chain k leads to, from its own input hash at a level
+-- the node that chain k leads to, from its own input hash at a level
 abbrev pub top_of : (List ℕ → List ℕ) → ℕ → ℕ → PlainChain → Result Node Refusal
 top_of image k level chain = or_level k (climbed image 0 (record { imprint = chain.input; level = level }) chain.links)
 
--- the items that the chains from k on lead to, each from its own input hash, and from the level that the chain below it
+-- the nodes that the chains from k on lead to, each from its own input hash, and from the level that the chain below it
 -- leads to
 abbrev pub tops : (List ℕ → List ℕ) → ℕ → ℕ → List PlainChain → Result (List Node) Refusal
 tops image k level [] = Ok []
@@ -60,23 +60,23 @@ tops image k level (chain ∷ chains) = do
 
 -- ---- V5: the input hash of each next chain is the imprint that the chain below it leads to
 
--- the items that lie below the chains from k on
+-- the nodes that lie below the chains from k on
 abbrev pub unbroken : ℕ → List Node → List PlainChain → Result (Unit {0}) Refusal
-unbroken k (below ∷ items) (chain ∷ chains) = need (bytes_eq chain.input below.imprint) (ChainBreak k below.imprint chain.input) >> unbroken (k + 1) items chains
-unbroken k items [] = Ok tt
+unbroken k (below ∷ nodes) (chain ∷ chains) = need (bytes_eq chain.input below.imprint) (ChainBreak k below.imprint chain.input) >> unbroken (k + 1) nodes chains
+unbroken k nodes [] = Ok tt
 unbroken k [] (chain ∷ chains) = Ok tt
 
--- the uppermost of items, or the one given where there are none
-abbrev pub last_item : Node → List Node → Node
-last_item below [] = below
-last_item below (item ∷ items) = last_item item items
+-- the highest of nodes, or the one given if there are none
+abbrev pub last_node : Node → List Node → Node
+last_node below [] = below
+last_node below (node ∷ nodes) = last_node node nodes
 
--- V4, then V5: the item that all chains lead to
+-- V4, then V5: the node that all chains lead to
 abbrev pub joined_chains : (List ℕ → List ℕ) → List PlainChain → Result Node Refusal
 joined_chains image chains = do
-  items ← tops image 0 0 chains
-  unbroken 1 items (higher_chains chains)
-  Ok (last_item (at_level_zero zero_imprint) items)
+  nodes ← tops image 0 0 chains
+  unbroken 1 nodes (higher_chains chains)
+  Ok (last_node (at_level_zero zero_imprint) nodes)
 
 -- ---- V6: each chain has the first chain's time
 
@@ -92,24 +92,24 @@ abbrev pub or_bare : ℕ → Option ℕ → Result (Unit {0}) Refusal
 or_bare k None = Ok tt
 or_bare k (Some link) = Err (BareMetadata k link)
 
--- of the links of chain k
+-- the check of the links of chain k
 abbrev pub none_bare : ℕ → PlainChain → Result (Unit {0}) Refusal
 none_bare k chain = or_bare k (first_bare 0 chain.links)
 
 abbrev pub no_bare_links : ℕ → List PlainChain → Result (Unit {0}) Refusal
 no_bare_links k chains = each none_bare k chains
 
--- ---- V2 to V6 and V15: the time of the chains and the item that they lead to, or the first check that fails
+-- ---- V2 to V6 and V15: the time of the chains and the node that they lead to, or the first check that fails
 
 abbrev pub chains_checked : (List ℕ → List ℕ) → List PlainChain → Result Aggregated Refusal
 chains_checked image chains = do
   index_order 0 (first_chain chains) (higher_chains chains)
   index_shapes 0 chains
-  item ← joined_chains image chains
+  node ← joined_chains image chains
   same_times (first_chain chains).time 0 chains
   no_bare_links 0 chains
-  Ok (record { time = (first_chain chains).time; item = item })
+  Ok (record { time = (first_chain chains).time; node = node })
 
--- of a signature
+-- the same for a signature
 abbrev pub aggregated : (List ℕ → List ℕ) → Signature → Result Aggregated Refusal
 aggregated image signature = chains_checked image (plain_chains signature.chains)

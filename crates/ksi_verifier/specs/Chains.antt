@@ -31,7 +31,7 @@ abbrev pub higher_chains : List PlainChain → List PlainChain
 higher_chains [] = []
 higher_chains (chain ∷ chains) = chains
 
--- an imprint at the level where the first chain begins
+-- an imprint at level 0, where the first chain begins
 abbrev pub at_level_zero : List ℕ → Node
 at_level_zero imprint = record { imprint = imprint; level = 0 }
 
@@ -40,6 +40,6 @@ at_level_zero imprint = record { imprint = imprint; level = 0 }
 abbrev pub without_last : List ℕ → List ℕ
 without_last index = take (length index - 1) index
 
--- the shape of a chain: that of its links' sides
+-- the shape of a chain: the shape of its links' sides
 abbrev pub chain_shape : PlainChain → ℕ
 chain_shape chain = shape_of (map (λ link. link.side) chain.links)

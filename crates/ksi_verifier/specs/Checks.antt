@@ -1,8 +1,8 @@
--- Checks in order: the first that fails is the answer.
+-- Checks in order: the first that fails is the result.
 use Rattle.std.specs.Prelude.{ℕ, ◌+◌, Bool, true, false, List, [], ◌∷◌, Result, Ok, Err}
 use Rattle.ksi_verifier.specs.declared.refusal.Refusal.{Refusal}
 
--- what follows from a check that holds, with its value and without
+-- the next check, if this one holds, with its value or without
 infixl 10 ◌>>=◌ ◌>>◌
 abbrev pub ◌>>=◌ : {A B : Type 0} → Result A Refusal → (A → Result B Refusal) → Result B Refusal
 (Ok x) >>= next = next x
@@ -12,7 +12,7 @@ abbrev pub ◌>>◌ : {A B : Type 0} → Result A Refusal → Result B Refusal �
 (Ok x) >> next = next
 (Err refusal) >> next = Err refusal
 
--- what must hold, or the refusal
+-- the condition must hold, or the result is the refusal
 abbrev pub need : Bool → Refusal → Result (Unit {0}) Refusal
 need true refusal = Ok tt
 need false refusal = Err refusal

@@ -5,31 +5,32 @@ use Rattle.ksi_signature.specs.declared.signature.Signature.{Signature}
 use Rattle.ksi_signature.specs.File.{IsSignature}
 use Rattle.ksi_publications.specs.declared.fault.PublicationsFault.{PublicationsFault}
 use Rattle.ksi_publications.specs.File.{IsPublications}
-use Rattle.ksi_verifier.specs.declared.verdict.Verdict.{Verdict}
-use Rattle.ksi_verifier.specs.declared.verdict.Verdict.TheVariants as verdicts
-use Rattle.ksi_verifier.specs.Verdict.{verdict}
-use Rattle.ksi_verifier.specs.Accepted.{IsAccepted}
+use Rattle.ksi_verifier.specs.declared.proved.Proved.{Proved}
+use Rattle.ksi_verifier.specs.declared.refusal.Refusal.{Refusal}
+use Rattle.ksi_verifier.specs.Verdict.{signature_checked}
+use Rattle.ksi_verifier.specs.Accepted.{IsProved}
 use Rattle.ksi_verifier.specs.declared.files_verdict.FilesVerdict.{FilesVerdict}
 use Rattle.ksi_verifier.specs.declared.files_verdict.FilesVerdict.TheVariants.{NotSignature, NotPublications, Refused, Accepted}
 
--- The first bytes are a signature and the others a publications file, and the signature is accepted for the hash at second t.
-pub record IsVerified (image : List ℕ → List ℕ) (signature hash publications : List ℕ) (t : ℕ) : Type 0 where
+-- The first bytes are a signature and the others a publications file, and the signature is accepted for the hash at the second,
+-- by the publication.
+pub record IsVerified (image : List ℕ → List ℕ) (signature hash publications : List ℕ) (proved : Proved) : Type 0 where
   pub read : Signature
   pub signature_is : IsSignature signature read
   pub pairs : List (ℕ × List ℕ)
   pub publications_are : IsPublications publications pairs
-  pub accepted : IsAccepted image read hash pairs t
+  pub accepted : IsProved image read hash pairs proved
 
-abbrev pub of_verdict : Verdict → FilesVerdict
-of_verdict (verdicts.Accepted second) = Accepted second
-of_verdict (verdicts.Refused refusal) = Refused refusal
+abbrev pub of_checked : Result Proved Refusal → FilesVerdict
+of_checked (Ok proved) = Accepted proved
+of_checked (Err refusal) = Refused refusal
 
--- of a signature and what the publications file is read as
+-- the verdict on a signature and the result of reading the publications file
 abbrev pub over_publications : (List ℕ → List ℕ) → Signature → Result (List (ℕ × List ℕ)) PublicationsFault → List ℕ → FilesVerdict
-over_publications image signature (Ok pairs) hash = of_verdict (verdict image signature hash pairs)
+over_publications image signature (Ok pairs) hash = of_checked (signature_checked image signature hash pairs)
 over_publications image signature (Err fault) hash = NotPublications fault
 
--- of what both files are read as; the signature is read first
+-- the verdict on the results of reading both files; the signature is read first
 abbrev pub files_verdict : (List ℕ → List ℕ) → Result Signature SignatureFault → Result (List (ℕ × List ℕ)) PublicationsFault → List ℕ → FilesVerdict
 files_verdict image (Ok signature) publications hash = over_publications image signature publications hash
 files_verdict image (Err fault) publications hash = NotSignature fault

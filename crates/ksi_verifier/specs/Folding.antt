@@ -1,4 +1,4 @@
--- What is remembered while the chains are climbed once.
+-- The state while the chains are climbed once.
 use Rattle.std.specs.Prelude.{ℕ, List, Option, Some, None, if◌then◌else◌}
 use Rattle.std.specs.Str.{bytes_eq}
 use Rattle.ksi_verifier.specs.declared.refusal.Refusal.{Refusal}

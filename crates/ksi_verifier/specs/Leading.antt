@@ -13,12 +13,12 @@ chain_links chain = chain.links
 abbrev pub all_links : List PlainChain → List PlainLink
 all_links chains = flat_map chain_links chains
 
--- each chain leads to its item, from its own input hash, and from the level of the item that the chain below it leads to
+-- each chain leads to its node, from its own input hash, and from the level of the node that the chain below it leads to
 abbrev pub HaveTops : (List ℕ → List ℕ) → ℕ → List PlainChain → List Node → Type 0
 HaveTops image level [] [] = Unit {0}
-HaveTops image level [] (top ∷ items) = ⊥
+HaveTops image level [] (top ∷ nodes) = ⊥
 HaveTops image level (chain ∷ chains) [] = ⊥
-HaveTops image level (chain ∷ chains) (top ∷ items) = Climbs image (record { imprint = chain.input; level = level }) chain.links top × HaveTops image top.level chains items
+HaveTops image level (chain ∷ chains) (top ∷ nodes) = Climbs image (record { imprint = chain.input; level = level }) chain.links top × HaveTops image top.level chains nodes
 
 -- the level at which chain k begins, where the first one begins at the level given
 abbrev pub level_before : ℕ → List PlainChain → ℕ → ℕ
@@ -31,21 +31,21 @@ pub record PassesIn (start : ℕ) (chains : List PlainChain) (k place high : ℕ
   pub low : level_before start chains k ≤ 255
   pub passes : PassesLevels (level_before start chains k) chain.links place high
 
--- the input hash of chain k is the first that is not the imprint which the chain below it leads to, where no level passes
+-- the input hash of chain k is the first that is not the imprint to which the chain below it leads, and no level passes
 -- 255
 pub record BreaksAt (image : List ℕ → List ℕ) (chains : List PlainChain) (k : ℕ) (computed stated : List ℕ) : Type 0 where
-  pub items : List Node
-  pub tops : HaveTops image 0 chains items
+  pub nodes : List Node
+  pub tops : HaveTops image 0 chains nodes
   pub below : ℕ
   pub above : k ≡ below + 1
-  pub item : Node
-  pub has_item : slice_get items below ≡ Some item
+  pub node : Node
+  pub has_node : slice_get nodes below ≡ Some node
   pub chain : PlainChain
   pub has_chain : slice_get chains k ≡ Some chain
-  pub is_computed : computed ≡ item.imprint
+  pub is_computed : computed ≡ node.imprint
   pub is_stated : stated ≡ chain.input
   pub differ : stated ≢ computed
-  pub first : (j : ℕ) (other : Node) (next : PlainChain) → j < below → slice_get items j ≡ Some other → slice_get chains (j + 1) ≡ Some next → next.input ≡ other.imprint
+  pub first : (j : ℕ) (other : Node) (next : PlainChain) → j < below → slice_get nodes j ≡ Some other → slice_get chains (j + 1) ≡ Some next → next.input ≡ other.imprint
 
 -- the index of the chain above chain k is the first that is not that of the chain below it without its last part; at this
 -- place they first differ, and there they have these parts: an index that has ended has none

@@ -1,4 +1,4 @@
--- The steps of a signature: each link with the node below it, what stands beside that, and the join of both.
+-- The steps of a signature: each link with the node below it, its sibling, and the join of both.
 use Rattle.std.specs.Prelude.{ℕ, ◌+◌, nat_lt, Bool, true, false, List, [], ◌∷◌, ◌++◌, Option, Some, None, Result, Ok, Err, if◌then◌else◌}
 use Rattle.ksi_split.specs.Trees.{link_from}
 use Rattle.ksi_split.specs.declared.side.Side.{Side}
@@ -13,9 +13,9 @@ use Rattle.ksi_signature.specs.Values.{Calendar}
 use Rattle.ksi_verifier.specs.Chains.{PlainChain, plain_chains}
 use Rattle.ksi_verifier.specs.declared.step.Step.{Step}
 
--- A link where it stands: in the calendar chain or in which aggregation chain, and at which place in it, the lowest being
--- 0. Then what it joins: the node below it, the side of that, the bytes beside it and whether they are raw; the level that
--- is hashed with both, and the join.
+-- The position of a link: in the calendar chain or in which aggregation chain, and its place there, the lowest being 0.
+-- Then its join: the node below it and its side, the sibling's bytes and whether they are raw, the level that is hashed
+-- with both, and the result.
 pub record PlainStep : Type 0 where
   pub calendar : Bool
   pub chain : ℕ
@@ -27,7 +27,7 @@ pub record PlainStep : Type 0 where
   pub raw : Bool
   pub join : List ℕ
 
--- what a lent step shows
+-- the value of a borrowed step
 abbrev pub step_seen : Step → PlainStep
 step_seen step = record {
   calendar = step.calendar;
@@ -93,12 +93,12 @@ steps_of_calendar image (Some calendar) = calendar_steps image 0 calendar.input 
 
 -- ---- both
 
--- what stands above a chain, from the level that it leads to; nothing where a level passes 255
+-- the steps above a chain, from the level that it leads to; none if a level passes 255
 abbrev pub above_top : Result Node LevelFault → (ℕ → List PlainStep) → List PlainStep
 above_top (Ok top) steps = steps top.level
 above_top (Err fault) steps = []
 
--- of the aggregation chains from one on and a level, and of the calendar chain above them
+-- the steps of the aggregation chains from one on and a level, and of the calendar chain above them
 abbrev pub steps_from : (List ℕ → List ℕ) → (chain level : ℕ) → List PlainChain → Option Calendar → List PlainStep
 steps_from image chain level [] calendar = steps_of_calendar image calendar
 steps_from image chain level (lowest ∷ chains) calendar =

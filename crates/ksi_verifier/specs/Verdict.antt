@@ -14,6 +14,7 @@ use Rattle.ksi_signature.specs.declared.signature.Signature.{Signature}
 use Rattle.ksi_verifier.specs.declared.aggregated.Aggregated.{Aggregated}
 use Rattle.ksi_verifier.specs.declared.difference.RecordDifference.TheVariants as differences
 use Rattle.ksi_verifier.specs.declared.lent.RecordPart.{RecordPart}
+use Rattle.ksi_verifier.specs.declared.proved.Proved.{Proved}
 use Rattle.ksi_verifier.specs.declared.refusal.Refusal.{Refusal}
 use Rattle.ksi_verifier.specs.declared.refusal.Refusal.TheVariants.{WrongHash, NoCalendar, CalendarInput, MissedSecond, CalendarShape, TimeField, RecordDiffers, NoPublication, PublicationDiffers}
 use Rattle.ksi_verifier.specs.declared.verdict.Verdict.{Verdict}
@@ -42,11 +43,11 @@ or_shape (Err fault) = Err (CalendarShape fault)
 abbrev pub second_named : Calendar → Result ℕ Refusal
 second_named calendar = or_shape (second_at calendar.publication (sides_from_top calendar.links))
 
--- V8, V9 and V10: the calendar chain goes on from the item of the chains, which is not that of a missed second, and its
+-- V8, V9 and V10: the calendar chain continues from the node of the chains, which is not that of a missed second, and its
 -- sides name a second
 abbrev pub calendar_second : Node → Calendar → Result ℕ Refusal
-calendar_second item calendar = do
-  need (bytes_eq calendar.input item.imprint) (CalendarInput item.imprint calendar.input)
+calendar_second node calendar = do
+  need (bytes_eq calendar.input node.imprint) (CalendarInput node.imprint calendar.input)
   need (not (bytes_eq calendar.input zero_imprint)) MissedSecond
   second_named calendar
 
@@ -56,13 +57,13 @@ same_second calendar_time chain_time second = do
   need (calendar_time == second) (TimeField calendar_time second)
   need (chain_time == second) (TimeField chain_time second)
 
--- ---- what was published
+-- ---- the published roots
 
 -- the root of the calendar that the calendar chain leads to
 abbrev pub chain_root : (List ℕ → List ℕ) → Calendar → List ℕ
 chain_root image calendar = climb_links (calendar_join image) calendar.input calendar.links
 
--- V12: a publication record, where there is one, has the publication time and the root
+-- V12: if there is a publication record, it has the publication time and the root
 abbrev pub same_record : Option RecordPart → ℕ → List ℕ → Result (Unit {0}) Refusal
 same_record None time root = Ok tt
 same_record (Some published) time root = do
@@ -80,29 +81,37 @@ published_checks published publications time root = do
   same_record published time root
   same_publication (find time publications) time root
 
--- ---- V8 to V14: the second, of an aggregation and a calendar chain, or the first check that fails
+-- ---- V8 to V14 of an aggregation and a calendar chain: the second and the publication, or the first check that fails
 
-abbrev pub calendar_checked : (List ℕ → List ℕ) → Aggregated → Calendar → Option RecordPart → List (ℕ × List ℕ) → Result ℕ Refusal
+abbrev pub proved_by : (List ℕ → List ℕ) → Calendar → ℕ → Proved
+proved_by image calendar second = record { second = second; publication = calendar.publication; root = chain_root image calendar }
+
+abbrev pub calendar_checked : (List ℕ → List ℕ) → Aggregated → Calendar → Option RecordPart → List (ℕ × List ℕ) → Result Proved Refusal
 calendar_checked image aggregation calendar published publications = do
-  second ← calendar_second aggregation.item calendar
+  second ← calendar_second aggregation.node calendar
   same_second calendar.time aggregation.time second
   published_checks published publications calendar.publication (chain_root image calendar)
-  Ok second
+  Ok (proved_by image calendar second)
 
 -- ---- V1 to V15, in the order V1 to V6, V15, V7 to V14
 
--- of chains, a calendar chain and what a publication record states
-abbrev pub checked : (List ℕ → List ℕ) → List PlainChain → Option Calendar → Option RecordPart → List ℕ → List (ℕ × List ℕ) → Result ℕ Refusal
+-- the verdict on chains, a calendar chain and a publication record
+abbrev pub checked : (List ℕ → List ℕ) → List PlainChain → Option Calendar → Option RecordPart → List ℕ → List (ℕ × List ℕ) → Result Proved Refusal
 checked image chains calendar_chain published hash publications = do
   same_hash (first_chain chains).input hash
   aggregation ← chains_checked image chains
   calendar ← some_calendar calendar_chain
   calendar_checked image aggregation calendar published publications
 
-abbrev pub or_refused : Result ℕ Refusal → Verdict
-or_refused (Ok second) = Accepted second
+-- those of a signature, for a hash and the times and hashes of a publications file
+abbrev pub signature_checked : (List ℕ → List ℕ) → Signature → List ℕ → List (ℕ × List ℕ) → Result Proved Refusal
+signature_checked image signature hash publications =
+    checked image (plain_chains signature.chains) signature.calendar (option_map record_of signature.publication) hash publications
+
+abbrev pub or_refused : Result Proved Refusal → Verdict
+or_refused (Ok proved) = Accepted proved.second
 or_refused (Err refusal) = Refused refusal
 
--- of a signature, for a hash and the times and hashes of a publications file
+-- the verdict on a signature, for a hash and the times and hashes of a publications file
 unfoldable pub verdict : (List ℕ → List ℕ) → Signature → List ℕ → List (ℕ × List ℕ) → Verdict
-verdict image signature hash publications = or_refused (checked image (plain_chains signature.chains) signature.calendar (option_map record_of signature.publication) hash publications)
+verdict image signature hash publications = or_refused (signature_checked image signature hash publications)

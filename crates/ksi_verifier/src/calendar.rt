@@ -8,13 +8,13 @@ use ksi_aggtree::chains::Node;
 use ksi_imprint::Imprint;
 
 /// V8, V9 and V10: the second that the sides name.
-pub(crate) fn check_calendar<K: AnyCalendar>(item: &Node, calendar: &K) -> Result<u64, Refusal>
-    ensures { result ≡ calendar_second item.now (K.plain calendar.now) }
+pub(crate) fn check_calendar<K: AnyCalendar>(node: &Node, calendar: &K) -> Result<u64, Refusal>
+    ensures { result ≡ calendar_second node.now (K.plain calendar.now) }
 {
     let input = calendar.input();
-    if input != item.imprint {
+    if input != node.imprint {
         return Err(Refusal::CalendarInput {
-            computed: item.imprint,
+            computed: node.imprint,
             stated: input,
         });
     }

@@ -22,8 +22,8 @@ pub(crate) fn check_chains<C: Compress, T: AnyChain>(chains: &[T]) -> Result<Agg
     if let Err(refusal) = check_shapes(chains) {
         return Err(refusal);
     }
-    let item = match check_links::<C, T>(chains) {
-        Ok(item) => item,
+    let node = match check_links::<C, T>(chains) {
+        Ok(node) => node,
         Err(refusal) => return Err(refusal),
     };
     let time = chains[0].time();
@@ -31,7 +31,7 @@ pub(crate) fn check_chains<C: Compress, T: AnyChain>(chains: &[T]) -> Result<Agg
         return Err(refusal);
     }
     match check_metadata(chains) {
-        Ok(()) => Ok(Aggregated { time, item }),
+        Ok(()) => Ok(Aggregated { time, node }),
         Err(refusal) => Err(refusal),
     }
 }

@@ -11,6 +11,7 @@ use crate::chains::check_chains;
 use crate::laws::accepted;
 use crate::lent::{CalendarPart, RecordPart};
 use crate::owned::{calendar_part, record_part};
+use crate::proved::Proved;
 use crate::publication::check_published;
 use crate::refusal::Refusal;
 use crate::verdict::Verdict;
@@ -52,11 +53,11 @@ fn verdict<C: Compress>(
     ))
 }
 
-pub(crate) fn verdict_of(checked: Result<u64, Refusal>) -> Verdict
+pub(crate) fn verdict_of(checked: Result<Proved, Refusal>) -> Verdict
     ensures { result ≡ or_refused checked }
 {
     match checked {
-        Ok(second) => Verdict::Accepted(second),
+        Ok(proved) => Verdict::Accepted(proved.second),
         Err(refusal) => Verdict::Refused(refusal),
     }
 }
@@ -68,7 +69,7 @@ pub(crate) fn check<C: Compress, T: AnyChain, K: AnyCalendar, P: Published>(
     published: &Option<RecordPart>,
     hash: &Imprint,
     publications: &P,
-) -> Result<u64, Refusal>
+) -> Result<Proved, Refusal>
     requires { 0 < length chains.now }
     ensures { result ≡ checked C.image (map T.plain chains.now) (option_map K.plain calendar.now) published.now hash.now (P.pairs publications.now) }
 {
@@ -95,10 +96,10 @@ fn check_above<C: Compress, K: AnyCalendar, P: Published>(
     calendar: &K,
     published: &Option<RecordPart>,
     publications: &P,
-) -> Result<u64, Refusal>
+) -> Result<Proved, Refusal>
     ensures { result ≡ calendar_checked C.image aggregated.now (K.plain calendar.now) published.now (P.pairs publications.now) }
 {
-    let second = match check_calendar(&aggregated.item, calendar) {
+    let second = match check_calendar(&aggregated.node, calendar) {
         Ok(second) => second,
         Err(refusal) => return Err(refusal),
     };
@@ -106,8 +107,13 @@ fn check_above<C: Compress, K: AnyCalendar, P: Published>(
         return Err(refusal);
     }
     let root = calendar.climb::<C>();
-    match check_published(published, publications, calendar.publication(), root) {
-        Ok(()) => Ok(second),
+    let publication = calendar.publication();
+    match check_published(published, publications, publication, root) {
+        Ok(()) => Ok(Proved {
+            second,
+            publication,
+            root,
+        }),
         Err(refusal) => Err(refusal),
     }
 }

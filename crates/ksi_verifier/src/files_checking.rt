@@ -1,13 +1,16 @@
-ghost use Rattle.std.specs.Prelude.{◌≡◌, ◌↔◌, ℕ};
+ghost use Rattle.std.specs.Prelude.{◌≡◌, ◌↔◌};
 ghost use Rattle.ksi_signature.specs.Reading.{signature_at};
 ghost use Rattle.ksi_signature.specs.Seen.{seen};
 ghost use Rattle.ksi_publications.specs.Reading.{publications_at};
 ghost use Rattle.ksi_verifier.specs.declared.files_verdict.FilesVerdict.TheVariants as files;
-ghost use Rattle.ksi_verifier.specs.Files.{IsVerified, files_verdict, of_verdict, over_publications};
+ghost use Rattle.ksi_verifier.specs.declared.proved.Proved as declared;
+ghost use Rattle.ksi_verifier.specs.Files.{IsVerified, files_verdict, of_checked, over_publications};
 
 use crate::files_verdict::FilesVerdict;
-use crate::laws::accepted;
-use crate::{Verdict, verify_lent};
+use crate::laws::proved;
+use crate::lent_checking::check_lent;
+use crate::proved::Proved;
+use crate::refusal::Refusal;
 use ksi_imprint::{Compress, Imprint};
 use ksi_publications::PublicationsView;
 use ksi_publications::laws::publications_are_read;
@@ -21,9 +24,10 @@ pub fn verify_files<C: Compress>(
     publications: &[u8],
 ) -> FilesVerdict
     ensures value { result ≡ files_verdict C.image (signature_at signature.now) (publications_at publications.now) hash.now }
-    ensures accepted { (t : ℕ) → (result ≡ files.Accepted t) ↔ IsVerified C.image signature.now hash.now publications.now t }
+    ensures accepted { (proved : declared.Proved) → (result ≡ files.Accepted proved) ↔
+        IsVerified C.image signature.now hash.now publications.now proved }
 {
-    accepted();
+    proved();
     signature_is_read();
     publications_are_read();
     verdict_of_files::<C>(signature, hash, publications)
@@ -52,7 +56,7 @@ fn verdict_over<C: Compress>(
 {
     publications_are_read();
     match PublicationsView::of(publications) {
-        Ok(publications) => of_verdict(verify_lent::<C, PublicationsView<'_>>(
+        Ok(publications) => of_checked(check_lent::<C, PublicationsView<'_>>(
             signature,
             hash,
             &publications,
@@ -61,11 +65,11 @@ fn verdict_over<C: Compress>(
     }
 }
 
-fn of_verdict(verdict: Verdict) -> FilesVerdict
-    ensures { result ≡ of_verdict verdict }
+fn of_checked(checked: Result<Proved, Refusal>) -> FilesVerdict
+    ensures { result ≡ of_checked checked }
 {
-    match verdict {
-        Verdict::Accepted(second) => FilesVerdict::Accepted(second),
-        Verdict::Refused(refusal) => FilesVerdict::Refused(refusal),
+    match checked {
+        Ok(proved) => FilesVerdict::Accepted(proved),
+        Err(refusal) => FilesVerdict::Refused(refusal),
     }
 }

@@ -1,4 +1,4 @@
-use crate::Refusal;
+use crate::{Proved, Refusal};
 use ksi_publications::PublicationsFault;
 use ksi_signature::SignatureFault;
 
@@ -11,6 +11,6 @@ pub enum FilesVerdict {
     NotPublications(PublicationsFault),
     /// The first check that fails.
     Refused(Refusal),
-    /// No check fails. The second is the one that the sides of the calendar chain name.
-    Accepted(u64),
+    /// No check fails.
+    Accepted(Proved),
 }

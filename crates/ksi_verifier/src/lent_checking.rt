@@ -5,15 +5,15 @@ ghost use Rattle.ksi_signature.specs.Seen.{seen};
 ghost use Rattle.ksi_verifier.specs.declared.verdict.Verdict.TheVariants as verdicts;
 ghost use Rattle.ksi_verifier.specs.Accepted.{IsAccepted};
 ghost use Rattle.ksi_verifier.specs.ChainChecks.{aggregated};
-ghost use Rattle.ksi_verifier.specs.Chains.{plain_chains};
 ghost use Rattle.ksi_verifier.specs.Lent.{calendar_of, record_of};
-ghost use Rattle.ksi_verifier.specs.Verdict.{checked, verdict};
+ghost use Rattle.ksi_verifier.specs.Verdict.{signature_checked, verdict};
 
 use crate::aggregated::Aggregated;
 use crate::chains::check_chains;
 use crate::checking::{check, verdict_of};
 use crate::laws::accepted;
 use crate::lent::{CalendarPart, RecordPart};
+use crate::proved::Proved;
 use crate::refusal::Refusal;
 use crate::verdict::Verdict;
 use ksi_imprint::{Compress, Imprint};
@@ -67,13 +67,12 @@ fn lent_verdict<C: Compress, P: Published>(
     verdict_of(check_lent::<C, P>(signature, hash, publications))
 }
 
-fn check_lent<C: Compress, P: Published>(
+pub(crate) fn check_lent<C: Compress, P: Published>(
     signature: &SignatureView<'_>,
     hash: &Imprint,
     publications: &P,
-) -> Result<u64, Refusal>
-    ensures { result ≡ checked C.image (plain_chains (seen signature.now).chains) (seen signature.now).calendar
-        (option_map record_of (seen signature.now).publication) hash.now (P.pairs publications.now) }
+) -> Result<Proved, Refusal>
+    ensures { result ≡ signature_checked C.image (seen signature.now) hash.now (P.pairs publications.now) }
 {
     let chains = signature.chains();
     let calendar = signature.calendar();

@@ -26,7 +26,7 @@ use Rattle.ksi_wire.specs.declared.event.ShortEvent.{ShortEvent}
 use Rattle.ksi_wire.specs.declared.event.ShortEvent.TheVariants as shorts
 use Rattle.ksi_wire.specs.Lines.{core_words}
 
--- a value and the words behind it, or the first fault
+-- a value and the words after it, or the first fault
 abbrev pub Got : Type 0 → Type 0
 Got A = Result (A × List Text) WireFault
 
@@ -99,7 +99,7 @@ abbrev pub is_empty : List Text → Bool
 is_empty [] = true
 is_empty (word ∷ rest) = false
 
--- the vote that was cast so far, if one was, behind the ballot of a promise
+-- the vote that was cast so far, if one was, after the ballot of a promise
 abbrev pub cast_in : PlanState → ℕ → List Text → Got SynodMessage
 cast_in plan promised ws =
     if is_empty ws
@@ -174,7 +174,7 @@ abbrev pub ReadsNext : List Text → Result (Bor Text) WireFault → List Text �
 ReadsNext ws (Ok word) rest = ws ≡ word.now ∷ rest
 ReadsNext ws (Err fault) rest = word_in ws ≡ Err fault
 
--- what was read, but for want of memory
+-- the result of reading, unless memory ran out
 abbrev pub Answers : {A : Type 0} → Result A WireFault → Result A (Refused WireFault) → Type 0
 Answers expected (Ok x) = expected ≡ Ok x
 Answers expected (Err (refused.Fault fault)) = expected ≡ Err fault

@@ -18,7 +18,7 @@ use Rattle.ksi_schedule.specs.Pieces.{Text}
 use Rattle.ksi_wire.specs.declared.fault.WireFault.{WireFault}
 use Rattle.ksi_wire.specs.declared.fault.WireFault.TheVariants as faults
 
--- ---- which links may stand above a round, as tests: those of `AreRoundLinks`
+-- ---- which links may be above a round, as tests: those of `AreRoundLinks`
 
 abbrev pub is_node : Sibling → Bool
 is_node (siblings.Imprint imprint) = true
@@ -51,7 +51,7 @@ has_round_links chain = are_round_links chain.links
 abbrev pub as_above : Aggregation → AboveChain
 as_above chain = record { input = chain.input; links = chain.links }
 
--- at most 8 chains of links that may stand above a round, the item's own among them
+-- at most 8 chains of links that may be above a round, including the item's own
 abbrev pub may_stand : List Aggregation → Bool
 may_stand chains = nat_le (length chains) 8 && list_all has_round_links chains
 
@@ -79,6 +79,6 @@ abbrev pub by_bytes : Result (List ℕ) FromHexError → Result Above WireFault
 by_bytes (Ok bytes) = by_signature (signature_at bytes)
 by_bytes (Err error) = Err faults.Above
 
--- the word is the hex, of either case, of a signature that says what stands above a round
+-- the word is the hex, of either case, of a signature that has the path above a round
 unfoldable pub above_said : (word : Text) → Result Above WireFault
 above_said word = by_bytes (decode_of word)

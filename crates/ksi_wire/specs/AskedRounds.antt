@@ -22,7 +22,7 @@ abbrev pub or_fault : Result Above WireFault → List Text → Got Above
 or_fault (Ok above) rest = Ok (above, rest)
 or_fault (Err fault) rest = Err fault
 
--- a second, and what a word says to stand above its round
+-- a second, and the path above its round that a word encodes
 abbrev pub response_of : (second : ℕ) → (word : Text) → List Text → Got AggregatorLine
 response_of second word rest = or_fault (above_said word) rest >>= λ above rest. Ok (lines.Event (events.Response second above), rest)
 

@@ -14,7 +14,7 @@ abbrev pub side_word : Side → Text
 side_word Left = codes "left"
 side_word Right = codes "right"
 
--- a link: on which side of its join the lower node stands, and the other part
+-- a link: the side of the lower node in its join, and the other part
 abbrev pub link_words : TreeLink (List ℕ) → List Text
 link_words link = side_word link.side ∷ hex_of link.sibling ∷ []
 

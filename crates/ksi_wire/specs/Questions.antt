@@ -83,13 +83,14 @@ core_line_words (lines.Event event) = core_words event
 core_line_words (lines.Held span) = held_words span
 core_line_words (lines.Chain ends) = chain_words ends
 
--- an event may come to a core with the plan's start, what is held may be told, and a chain be led to its end
+-- an event may come to a core with the plan's start, a query has a valid span, and a chain ends at or after the start and
+-- below 2^63
 abbrev pub MayBeAsked : PlanState → CoreLine → Type 0
 MayBeAsked plan (lines.Event event) = (it : CoreState) → it.start ≡ plan.start → MayTake it event × IsAsked it (event_second event)
 MayBeAsked plan (lines.Held span) = IsSpan span
 MayBeAsked plan (lines.Chain ends) = (plan.start ≤ ends.to) × (ends.to < 2 ^ 63)
 
--- the ballot that an event brings, if any, is of one of so many cores
+-- the ballot that an event brings, if any, is of one of this many cores
 abbrev pub AsksOwned : (cores : ℕ) → CoreLine → Type 0
 AsksOwned cores (lines.Event event) = BringsOwned cores event
 AsksOwned cores (lines.Held span) = Unit {0}

@@ -19,6 +19,7 @@ fault_word faults.Above = codes "above"
 fault_word faults.Spelling = codes "spelling"
 fault_word faults.Long = codes "long"
 fault_word faults.Taken = codes "taken"
+fault_word faults.Forgotten = codes "forgotten"
 
 -- the block for a line that is refused
 abbrev pub refusal_text : WireFault → Text

@@ -63,7 +63,7 @@ IsAskedOfCore plan me (questions.Event event) = ComesToCore plan me event
 IsAskedOfCore plan me (questions.Held span) = InRange plan span.from × (1 ≤ span.count) × (span.count ≤ 1024)
 IsAskedOfCore plan me (questions.Chain ends) = InRange plan ends.from × InRange plan ends.to
 
--- a response is of a second of the plan, and can be told
+-- a response is of a second of the plan, and has a text
 abbrev pub ComesToAggregator : PlanState → (me : ℕ) → AggregatorLine → Type 0
 ComesToAggregator plan me (lines.Sign number) = number < 2 ^ 64
 ComesToAggregator plan me (lines.Event (rounds.Request number second imprint name)) = (number < 2 ^ 64) × InRange plan second × IsDigest imprint × IfSome name IsName

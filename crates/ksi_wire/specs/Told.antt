@@ -25,7 +25,7 @@ sealed_lines second (Some entries) = map (sealed_words second) (items_of entries
 abbrev pub second_lines : CoreState → (second : ℕ) → List (List Text)
 second_lines core second = root_lines second (held_by core second) ++ sealed_lines second (state_of core second).sealed
 
--- the same of so many seconds from this one on
+-- the same for this many seconds from this one on
 abbrev pub held_lines : CoreState → (from count : ℕ) → List (List Text)
 held_lines core from zero = []
 held_lines core from (suc count) = second_lines core from ++ held_lines core (suc from) count

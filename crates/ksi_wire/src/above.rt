@@ -1,4 +1,4 @@
-// What stands above a round, as a signature in hex. The signature's lowest chain has no link, and the others are those above.
+// The path above a round, as a signature in hex. The signature's lowest chain has no link, and the others are those above.
 ghost use Rattle.std.specs.Prelude.{◌≡◌, ◌<◌, ◌≤◌, ◌^◌, [], ◌||◌, length, map, drop, true, IfOk};
 ghost use Rattle.std.specs.List.{AllByRecursion, list_all};
 ghost use Rattle.ksi_signature.specs.Above.{AreRoundLinks};

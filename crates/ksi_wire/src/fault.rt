@@ -26,8 +26,10 @@ pub enum WireFault {
     Spelling,
     /// The line is longer than [`MOST_LINE`](crate::MOST_LINE).
     Long,
-    /// The number stands for another request.
+    /// The number belongs to another request.
     Taken,
+    /// The core forgot the second and keeps only its root.
+    Forgotten,
 }
 
 impl WireFault {
@@ -48,6 +50,7 @@ impl WireFault {
             WireFault::Spelling => b"spelling",
             WireFault::Long => b"long",
             WireFault::Taken => b"taken",
+            WireFault::Forgotten => b"forgotten",
         }
     }
 }

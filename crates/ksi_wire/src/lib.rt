@@ -1,12 +1,12 @@
-//! The lines by which nodes speak: what comes to a core or to an aggregator, and the outcome of each step.
+//! The lines that nodes read and print: the events of a core or of an aggregator, and the result of each step.
 //!
-//! A line is the words of an event, parted by single spaces. A message is printed as `send`, its addressee, and the very line
-//! that the addressee takes. A response carries a signature file in hex.
+//! A line is the words of an event, separated by single spaces. A message is printed as `send`, its addressee, and exactly
+//! the line that the addressee takes. A response carries a signature file in hex.
 //!
-//! The layers above may rely on this. A line is taken only where it is exactly the text of the event that it is read as, so
-//! each event has one line ([`core_line`], [`aggregator_line`]). A line that is not taken has one fault, the first from the
-//! left. The printed line of each event that may come to a node is taken again, by the law
-//! [`printed_lines_are_taken`](laws::printed_lines_are_taken). And the text of a step is its answer, whether a fact was stored,
+//! The layers above may rely on this. A line is accepted only if it is exactly the text of the event that it encodes, so
+//! each event has one line ([`core_line`], [`aggregator_line`]). A line that is not accepted has one fault, the first from
+//! the left. The printed line of each event that may come to a node is accepted again, by the law
+//! [`printed_lines_are_taken`](laws::printed_lines_are_taken). The text of a step is its answer, whether a fact was stored,
 //! and the lines of its messages ([`core_step_text`], [`round_step_text`]).
 //!
 //! ```text

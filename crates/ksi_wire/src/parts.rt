@@ -11,9 +11,7 @@ use crate::cursor::{Words, is};
 use crate::fault::WireFault;
 use ksi_aggtree::{HIGHEST_ITEM, Item, Name};
 use ksi_schedule::{Actor, Plan};
-
-// How many seconds a plan has.
-const SECONDS: u64 = 0x100_0000;
+use ksi_synod::PLAN_SECONDS;
 
 pub(crate) fn second(plan: &Plan, words: &mut Words<'_>) -> Result<u64, WireFault>
     ensures read { Reads (second_in plan.now (words_left words.old.left)) result (words_left words.new.left) }
@@ -23,7 +21,7 @@ pub(crate) fn second(plan: &Plan, words: &mut Words<'_>) -> Result<u64, WireFaul
 {
     let n = words.number()?;
     let start = plan.core_plan().start();
-    if start <= n && n - start < SECONDS {
+    if start <= n && n - start < PLAN_SECONDS {
         Ok(n)
     } else {
         Err(WireFault::Second)

@@ -196,7 +196,7 @@ fn put_request(
     put_name(text, name)
 }
 
-/// What stands above the round of a second.
+/// The line of a response: the path from the round of a second to the root.
 pub fn put_response(
     alloc: Global,
     text: &mut Vec<u8>,

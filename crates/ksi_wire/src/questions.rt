@@ -19,7 +19,7 @@ use std::alloc::Global;
 // Of how many seconds at most a core tells what it has.
 const MOST_SECONDS: u64 = 1024;
 
-/// So many seconds, from one on.
+/// A number of seconds, from one on.
 #[derive(Clone, Copy, PartialEq, Eq, Debug)]
 pub struct Span {
     pub from: u64,

@@ -140,7 +140,7 @@ fn short(event: ShortEvent) -> RoundEvent
     }
 }
 
-/// What stands above the round of a second, behind the first word.
+/// The path above the round of a second, behind the first word.
 fn response(
     alloc: Global,
     plan: &Plan,

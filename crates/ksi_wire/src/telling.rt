@@ -13,7 +13,7 @@ use ksi_corenode::Core;
 use ksi_imprint::{Compress, Imprint, NoMemory};
 use std::alloc::Global;
 
-/// The block for what a core has of so many seconds: the roots that it holds, and the items that it sealed.
+/// The block of a core's data for a number of seconds: the roots that it holds, and the items that it sealed.
 pub fn held_text<C: Compress>(
     alloc: Global,
     core: &Core<C>,
@@ -28,7 +28,7 @@ pub fn held_text<C: Compress>(
     Ok(text)
 }
 
-/// The lines of so many seconds from this one on.
+/// The lines of this many seconds from this one on.
 fn put_held<C: Compress>(
     text: &mut Vec<u8>,
     core: &Core<C>,

@@ -1,4 +1,4 @@
--- The grammar that `clap` parses by, in its own words. What a command line asks for is told without it, in Words.
+-- The grammar that `clap` parses by, in its own words. The meaning of a command line is defined without it, in Words.
 use Rattle.std.specs.Prelude.{ℕ, List, codes, Some, true, fold}
 use Rattle.clap.specs.Words.{App, Rule, Shape, Text, new_app, new_rule, with_rule, with_subcommand}
 use Rattle.clap.specs.Simple.{on_top}

@@ -1,4 +1,4 @@
--- The sorts of words that stand after a command's name, and what a word of each stands for.
+-- The sorts of words after a command's name, and the meaning of a word of each.
 use Rattle.std.specs.Prelude.{ℕ, ◌^◌, List, drop, nat_lt, option_map, Option, Some, None, Result, Ok, Err, if◌then◌else◌}
 use Rattle.ksi_schedule.specs.Decimal.{number_of}
 use Rattle.ksi_imprint.specs.Reading.{hex_at}

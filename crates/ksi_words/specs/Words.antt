@@ -11,7 +11,7 @@ use Rattle.ksi_words.specs.declared.asked.Command.TheVariants.{Replay, Sign, Pub
 use Rattle.ksi_words.specs.declared.asked.WordsRefusal.{WordsRefusal}
 use Rattle.ksi_words.specs.declared.asked.WordsRefusal.TheVariants.{Words, BadWord}
 
--- a command: its file words as they stand, and its other words read
+-- a command: its file words as they are, and its other words read
 pub data Asked : Type 0 where
   replay : List ℕ → List ℕ → Asked
   sign : List ℕ → ℕ → List ℕ → Asked
@@ -34,7 +34,7 @@ pub data Asked : Type 0 where
   mirror : List ℕ → ℕ → List ℕ → Asked
   node : List ℕ → ℕ → List ℕ → Asked
 
--- what asks for a command, given what the words of these sorts stand for
+-- a command as a function of the values of words of these sorts
 abbrev pub From : List Sort → Type 0
 From [] = Asked
 From (sort ∷ sorts) = Of sort → From sorts
@@ -115,7 +115,7 @@ abbrev pub begins_with_dash : List ℕ → Bool
 begins_with_dash [] = false
 begins_with_dash (b ∷ bs) = b == 45
 
--- what word n stands for, where it stands for anything
+-- the meaning of word n, if it has one
 abbrev pub word_at : {T : Type 0} → ℕ → Option T → Result T WordsRefusal
 word_at n (Some value) = Ok value
 word_at n None = Err (BadWord n)
@@ -132,7 +132,7 @@ asked_from n [] command (word ∷ words) = Err Words
 asked_from n (sort ∷ sorts) command [] = Err Words
 asked_from n (sort ∷ sorts) command (word ∷ words) = word_at n (value_of sort word) >>= λ value. asked_from (n + 1) sorts (command value) words
 
--- as many words as the row has sorts, of which the first bad one is told
+-- as many words as the row has sorts, of which the first bad one is reported
 abbrev pub asked_by : CommandForm → List (List ℕ) → Result Asked WordsRefusal
 asked_by row words = if length words == length row.sorts then asked_from 1 row.sorts row.asks words else Err Words
 

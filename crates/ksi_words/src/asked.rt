@@ -1,6 +1,6 @@
 use ksi_imprint::Imprint;
 
-/// A command: its file words as they stand, and its other words read.
+/// A command: its file words as they are, and its other words read.
 #[derive(Drop)]
 pub enum Command<'a> {
     /// The schedule's file, the journal's file to write.

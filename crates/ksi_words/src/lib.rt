@@ -1,10 +1,10 @@
-//! The words of a command line: which command they ask for, with its number and hash words read.
+//! The words of a command line: the command that they ask for, with its number and hash words read.
 //!
-//! Each command is a row of a table: its name, and the words after it, each a file, a hash, a number, a time or a seed. `clap`
-//! parses by a grammar that is built from the rows. The layer above may rely on this: [`command`] gives exactly the
-//! command that the words ask for, as `command_of` tells it; it refuses words that have no command's form, and else
-//! names the first word that is no number, hash or seed. It may want for memory. [`number`], [`time`], [`hash`] and [`seed`]
-//! read one word and take none.
+//! Each command is a row of a table: its name, and the words after it, each a file, a hash, a number, a time or a seed.
+//! `clap` parses by a grammar that is built from the rows. The layers above may rely on this: [`command`] returns exactly
+//! the command that the words ask for, by the definition `command_of`. It refuses words that have no command's form, and
+//! otherwise reports the first word that is no number, hash or seed. It may run out of memory. [`number`], [`time`],
+//! [`hash`] and [`seed`] read one word and allocate nothing.
 //!
 //! ```text
 //! match command(alloc, &words) {

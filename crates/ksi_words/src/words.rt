@@ -11,11 +11,11 @@ use clap::error::ErrorKind;
 use ksi_imprint::Refused;
 use std::alloc::Global;
 
-/// The command that the words ask for, where the first is the command's name, as many follow as its row of the table
-/// shows, and none begins with a dash. Its file words are borrowed from `words`.
+/// The command that the words ask for, if the first is the command's name, as many follow as its row of the table shows,
+/// and none begins with a dash. Its file words are borrowed from `words`.
 ///
-/// Unless there is no memory, the fault `Words` comes exactly where they have no such form, and `BadWord(n)` exactly where
-/// they have and word `n` after the name is the first that is no number, hash or seed where one has to stand. Each second that is
+/// Unless memory runs out, the fault `Words` occurs exactly if they have no such form, and `BadWord(n)` exactly if they
+/// have and word `n` after the name is the first that should be a number, hash or seed and is none. Each second that is
 /// asked for is below 2^63.
 pub fn command<'a>(alloc: Global, words: &'a [String]) -> Result<Command<'a>, Refused<WordsRefusal>>
     ensures reads { Reads (command_of (texts words.now)) result }

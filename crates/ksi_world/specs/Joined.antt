@@ -1,4 +1,4 @@
--- How what is issued and published stands to what is kept.
+-- How issued signatures and publications relate to the kept seconds.
 use Rattle.std.specs.Prelude.{◌≡◌, ◌≢◌, ℕ, List, [], ◌∷◌, slice_get, Some}
 use Rattle.ksi_imprint.specs.Imprints.{zero_imprint}
 use Rattle.ksi_calendar.specs.Covered.{IsCovered, covered_root, covered_path}

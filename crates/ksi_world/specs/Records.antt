@@ -98,7 +98,7 @@ module _ (image : List ℕ → List ℕ) where
   issued_among w number zero = []
   issued_among w number (suc n) = issued_before number (issued_of w number) (issued_among w (suc number) n)
 
-  -- all issued signatures, each behind the number of its request, rising
+  -- all issued signatures, each after the number of its request, rising
   unfoldable pub issued_all : WorldState → List (ℕ × List ℕ)
   issued_all w = issued_among w 0 (length w.requests)
 

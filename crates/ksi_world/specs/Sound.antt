@@ -18,7 +18,7 @@ use Rattle.ksi_world.specs.declared.message.Message.{Message}
 use Rattle.ksi_schedule.specs.Plans.{PlanState, parent_of, InRange}
 use Rattle.ksi_world.specs.Histories.{WorldState}
 
--- how many aggregators stand from an actor up to a core, itself among them, where they are no more than these
+-- how many aggregators are on the path from an actor up to a core, including itself, if they are no more than these
 unfoldable pub depth_within : PlanState → (most : ℕ) → Actor → ℕ
 depth_within plan most (actors.Core j) = 0
 depth_within plan zero (actors.Aggregator k) = 0
@@ -32,7 +32,7 @@ depth_of plan actor = depth_within plan 8 actor
 abbrev pub IsLow : PlanState → Actor → Item → Type 0
 IsLow plan sender item = item.level + 17 * depth_of plan sender ≤ 153
 
--- the core's ballots are ballots, and it is one of so many cores
+-- the core's ballots are ballots, and it is one of this many cores
 pub record IsSmall (cores : ℕ) (v : VoteState) : Type 0 where
   pub tried : v.tried < 2 ^ 36
   pub promised : v.promised < 2 ^ 36

@@ -1,4 +1,4 @@
--- What stands above a round: how each Response that was ever sent leads from the item of a round to a root that is held.
+-- The path above a round: how each Response that was ever sent leads from the item of a round to a root that is held.
 use Rattle.std.specs.Prelude.{◌≡◌, ◌≢◌, ℕ, ◌<◌, ◌≤◌, List, length, slice_get, Some}
 use Rattle.std.specs.List.{AllByRecursion}
 use Rattle.ksi_imprint.specs.Imprints.{zero_imprint}
@@ -22,7 +22,7 @@ abbrev pub IsHeldBySender : WorldState → (sender : Actor) (second : ℕ) (root
 IsHeldBySender w (actors.Core j) second root = held_in w j second ≡ Some root
 IsHeldBySender w (actors.Aggregator k) second root = Unit {0}
 
--- The message tells an aggregator what stands above its round.
+-- The message gives an aggregator the path above its round.
 pub record IsLinked (image : List ℕ → List ℕ) (plan : PlanState) (w : WorldState) (message : Message) (above : Above) : Type 0 where
   -- the aggregator is of the plan, and has closed its round of this second: what is answered is the round's tree
   pub aggregator : ℕ

@@ -107,7 +107,7 @@ fn put_kept<C: Compress>(
     Ok(())
 }
 
-/// So many times the same second.
+/// This many times the same second.
 fn all_at(alloc: Global, second: u64, many: usize) -> Result<Vec<u64>, NoMemory>
     ensures { IfOk result (λ known. known.items ≡ replicate many second) }
 {

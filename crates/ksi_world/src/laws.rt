@@ -272,11 +272,11 @@ pub fn sealed_is_listed()
     steps_agree();
 }
 
-/// What an event asks of a core it may be asked: the core may take it, and its second is at or after the start and below 2^63.
-/// The ballot that it brings, if any, is of a core of the plan.
-/// A core that keeps what the world keeps of it, and takes that, keeps what the world keeps then. The world's second of the
-/// core is that of its turn, and the turn's messages stand behind all that were sent before; nothing is asked of another core.
-/// An event that asks nothing of a core leaves it, or restarts it.
+/// A core may be asked whatever an event asks of it: the core may take it, and its second is at or after the start and
+/// below 2^63. The ballot that it brings, if any, is of a core of the plan. A core that keeps what the world keeps of it,
+/// and takes that, keeps what the world keeps then. The world's second of the core is that of its turn, and the turn's
+/// messages follow all that were sent before; nothing is asked of another core. An event that asks nothing of a core
+/// leaves it, or restarts it.
 pub fn events_are_turns()
     ensures may { (image : List ℕ → List ℕ) (plan : PlanState) (before : List Event) → IsPlan plan → AreEvents plan before → (core : ℕ) (event : Event) (one : asked.CoreEvent) → IsEvent plan event →
         asked_of core (after image plan before).wire event ≡ Some one → (it : CoreState) → it.start ≡ plan.start → MayTake it one × IsAsked it (event_second one) }
@@ -300,10 +300,10 @@ pub fn events_are_turns()
     one_round();
 }
 
-/// What an event asks of an aggregator it may be asked: the aggregator may take it, and its second is below 2^63. The world's
-/// round is that of its turn, and the turn's messages stand behind all that were sent before; nothing is asked of another
-/// node. An event that asks nothing of an aggregator leaves it, or restarts it. What a round issues of a number is issued of
-/// the request of that number.
+/// An aggregator may be asked whatever an event asks of it: the aggregator may take it, and its second is below 2^63. The
+/// world's round is that of its turn, and the turn's messages follow all that were sent before; nothing is asked of
+/// another node. An event that asks nothing of an aggregator leaves it, or restarts it. What a round issues for a number
+/// is issued for the request of that number.
 pub fn rounds_are_turns()
     ensures may { (image : List ℕ → List ℕ) (plan : PlanState) (before : List Event) → IsPlan plan → AreEvents plan before → (aggregator : ℕ) (event : Event) (one : RoundEvent) → IsEvent plan event →
         round_asked_of aggregator (after image plan before) event ≡ Some one → rounds.MayTake ((after image plan before).rounds aggregator) one × (rounds.event_second one < 2 ^ 63) }

@@ -1,18 +1,18 @@
 //! A whole infrastructure as one value: all cores and aggregators of a plan, and the wire between them.
 //!
-//! A [`World`] takes one [`Event`] at a time and answers an [`Outcome`]: the addressee's answer, and how many messages were
-//! sent. [`World::after`] takes the events of a schedule, which are not copied. Every message ever sent stands in the wire
-//! under its number. `Event::Deliver` hands one to its addressee, so a message may be lost, late, repeated or out of order,
-//! and any node may restart at any moment. A contract sees the plan and the list of events, and `specs/Histories` says what
-//! every node keeps and what was sent after them.
+//! A [`World`] takes one [`Event`] at a time and returns an [`Outcome`]: the addressee's answer, and how many messages were
+//! sent. [`World::after`] takes the events of a schedule without copying them. The wire has every message that was ever
+//! sent, by its number. `Event::Deliver` passes one to its addressee, so a message may be lost, late, repeated or out of
+//! order. Any node may restart at any moment. A contract sees the plan and the list of events; `specs/Histories` defines
+//! what every node keeps and which messages were sent after them.
 //!
-//! The layer above may rely on this: each call's answer is that of `happens`, all readers are those of the events so far,
-//! `issued` is `issued_of`, the signature of an accepted request exactly where its round has a response, and `kept` has each
-//! second that a core holds a root for, with the items of its tree. [`laws`] says what holds after every history: no two
-//! cores hold different roots for a second, and a held root is a missed second's or the imprint of the tree of items that a
-//! core sealed; what was published at any moment is the calendar's root over what is kept; and the chains of an issued
-//! signature climb from the request's imprint to the root that is kept for its second. After `NoMemory` all is as it was.
-//! The readers but `issued` and `kept` take no memory.
+//! The layers above may rely on this. Each call's answer is that of `happens`, and all readers show the state after the
+//! events so far. `issued` is `issued_of`: the signature of an accepted request, exactly if its round has a response.
+//! `kept` has each second for which a core holds a root, with the items of its tree. [`laws`] has the laws on every
+//! history. No two cores hold different roots for a second. A held root is that of a missed second, or the imprint of the
+//! tree of items that a core sealed. A publication, at any moment, is the calendar's root over the kept seconds. The chains
+//! of an issued signature climb from the request's imprint to the root that is kept for its second. After `NoMemory`
+//! nothing has changed. Of the readers only `issued` and `kept` allocate memory.
 //!
 //! ```text
 //! let mut world = World::<Sha>::new(alloc, &plan)?;

@@ -10,7 +10,7 @@ pub enum Content {
     Synod(SynodMessage),
     /// The item that the tree of an aggregator's round is submitted as.
     Submission(Item),
-    /// What stands above the addressee's item.
+    /// The path above the addressee's item.
     Response(Above),
 }
 

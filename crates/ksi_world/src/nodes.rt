@@ -283,7 +283,7 @@ impl<C: Compress> Nodes<C> {
         self.requests.get(number as usize)
     }
 
-    /// The kept ones of so many seconds from the first one on, rising.
+    /// The kept ones of this many seconds from the first one on, rising.
     pub fn kept(&self, alloc: Global, start: u64, many: u64) -> Result<Vec<Second>, NoMemory>
         requires { start + many < 2 ^ 64 }
         ensures { IfOk result (λ kept. kept.items ≡ kept_among (second_among C.image self.now.cores) start many) }

@@ -94,7 +94,7 @@ impl Posted {
         })
     }
 
-    /// Makes room for so many messages.
+    /// Makes room for this many messages.
     pub(crate) fn reserve(&mut self, many: usize) -> Result<(), NoMemory>
         ensures messages { self.new.messages ≡ self.old.messages }
         ensures room { OnOk result (self.new.room ≡ many) }

@@ -15,6 +15,7 @@ use ksi_aggtree::laws::one_round;
 use ksi_corenode::Core;
 use ksi_imprint::{Bytes, Compress, Imprint, NoMemory};
 use ksi_schedule::{Event, Plan, Schedule};
+use ksi_synod::PLAN_SECONDS;
 use ksi_synod::laws::steps_agree;
 use std::alloc::Global;
 use std::marker::Model;
@@ -152,8 +153,8 @@ impl<C: Compress> World<C> {
         self.nodes.core(core)
     }
 
-    /// The signature of the request of this number, none exactly where no such request stands in a closed round that has
-    /// a response. It has at most 10,000 bytes.
+    /// The signature of the request of this number, or none exactly if no closed round that has a response has such a
+    /// request. It has at most 10,000 bytes.
     ///
     /// # Errors
     /// `NoMemory`.
@@ -193,5 +194,5 @@ impl<C: Compress> World<C> {
 fn all_seconds() -> u64
     ensures { result ≡ 2 ^ 24 }
 {
-    16_777_216
+    PLAN_SECONDS
 }

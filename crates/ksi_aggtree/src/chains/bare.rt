@@ -5,7 +5,7 @@ ghost use Rattle.ksi_aggtree.specs.Links.{begins_as_imprint, is_bare, first_bare
 use crate::chains::chain_link::ChainLink;
 use ksi_split::Side;
 
-/// The first right link whose raw sibling begins with 0x01, as an imprint does: none where there is none.
+/// The first right link whose raw sibling begins with 0x01, as an imprint does, or none.
 pub fn find_bare<L: ChainLink>(links: &[L]) -> Option<usize>
     ensures { result ≡ first_bare 0 (map L.plain links.now) }
 {

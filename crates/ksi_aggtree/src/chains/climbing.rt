@@ -9,14 +9,14 @@ use crate::chains::node::{HIGHEST_LEVEL, Node};
 use ksi_imprint::{Compress, Imprint};
 use ksi_split::Side;
 
-/// Why links lead to no item.
+/// Why links lead to no node.
 #[derive(Clone, Copy, PartialEq, Eq, Debug)]
 pub enum LevelFault {
     /// The first link whose level passes 255, counted from 0 at the bottom, and that level.
     Over { link: usize, level: u16 },
 }
 
-/// The item that links lead to, the lowest first, from an imprint at a level, whoever owns the siblings.
+/// The node that links lead to, the lowest first, from an imprint at a level, whoever owns the siblings.
 ///
 /// # Errors
 /// `Over` with the first link whose level passes 255.
@@ -25,46 +25,46 @@ pub fn climb<C: Compress, L: ChainLink>(
     level: u8,
     links: &[L],
 ) -> Result<Node, LevelFault>
-    ensures climbs { (item : Node) → (result ≡ Ok item) ↔
-        Climbs C.image (record { imprint = start; level = level }) (map L.plain links.now) item }
+    ensures climbs { (node : Node) → (result ≡ Ok node) ↔
+        Climbs C.image (record { imprint = start; level = level }) (map L.plain links.now) node }
     ensures over { (place high : ℕ) → (result ≡ Err (Over place high)) ↔
         PassesLevels level (map L.plain links.now) place high }
     ensures value { result ≡
         climbed C.image 0 (record { imprint = start; level = level }) (map L.plain links.now) }
 {
-    let mut item = Node {
+    let mut node = Node {
         imprint: start,
         level,
     };
     for (place, link) in links.iter().enumerate() {
-        match climb_link::<C, L>(item, place, link) {
-            Ok(above) => item = above,
+        match climb_link::<C, L>(node, place, link) {
+            Ok(above) => node = above,
             Err(fault) => return Err(fault),
         }
     }
-    Ok(item)
+    Ok(node)
 }
 
-/// The item that one link leads to, the one at that place among others.
+/// The node that one link leads to, the one at that place among others.
 ///
 /// # Errors
 /// `Over` where its level passes 255.
 pub fn climb_link<C: Compress, L: ChainLink>(
-    item: Node,
+    node: Node,
     place: usize,
     link: &L,
 ) -> Result<Node, LevelFault>
     ensures goes { IfOk result (λ above. (links : List PlainLink) →
-        climbed C.image place item (L.plain link.now ∷ links) ≡ climbed C.image (place + 1) above links) }
+        climbed C.image place node (L.plain link.now ∷ links) ≡ climbed C.image (place + 1) above links) }
     ensures stops { IfErr result (λ fault. (links : List PlainLink) →
-        climbed C.image place item (L.plain link.now ∷ links) ≡ Err fault) }
+        climbed C.image place node (L.plain link.now ∷ links) ≡ Err fault) }
 {
-    let level = item.level as u16 + link.correction() as u16 + 1;
+    let level = node.level as u16 + link.correction() as u16 + 1;
     if level > HIGHEST_LEVEL as u16 {
         return Err(LevelFault::Over { link: place, level });
     }
     let level = level as u8;
-    let imprint = join_beside::<C>(link.side(), item.imprint.bytes(), link.sibling(), level);
+    let imprint = join_beside::<C>(link.side(), node.imprint.bytes(), link.sibling(), level);
     Ok(Node { imprint, level })
 }
 

@@ -7,7 +7,7 @@ ghost use Rattle.ksi_aggtree.specs.Shapes.{IsShape, left_powers, shape_of};
 ghost use Rattle.ksi_aggtree.specs.declared.chains.node.Node.{Node};
 ghost use Rattle.ksi_aggtree.specs.declared.chains.climbing.LevelFault.TheVariants.{Over};
 
-/// Links lead from an item to one other, or the level of one of them is the first to pass 255, and not both. `climbed`
+/// Links lead from a node to one other, or the level of one of them is the first to pass 255, and not both. `climbed`
 /// says which.
 pub fn one_climb()
     ensures some { (image : List ℕ → List ℕ) (start : Node) (links : List PlainLink) →

@@ -29,7 +29,7 @@ pub fn with_side(bits: u64, place: usize, side: Side) -> u64
     }
 }
 
-/// The bits of so many links, and the one above them.
+/// The bits of this many links, and a one above them.
 pub fn with_leading_one(bits: u64, links: usize) -> u64
     requires links { links ≤ 63 }
     requires fits { bits + 2 ^ links < 2 ^ 64 }

@@ -14,7 +14,7 @@ pub record Entry : Type 0 where
 abbrev pub entry_text : Entry → Text
 entry_text entry = entry.line ++ 10 ∷ entry.block
 
--- one entry behind the other
+-- one entry after the other
 abbrev pub log_text : List Entry → Text
 log_text [] = []
 log_text (entry ∷ entries) = entry_text entry ++ log_text entries
@@ -25,7 +25,7 @@ HasBlock (heads.Said it) block = IsBlock block
 HasBlock (heads.Unsaid it) block = block ≡ []
 HasBlock heads.Restarted block = block ≡ []
 
--- a block stands behind it
+-- a block follows it
 abbrev pub WantsBlock : Head → Type 0
 WantsBlock (heads.Said it) = Unit {0}
 WantsBlock (heads.Unsaid it) = ⊥

@@ -37,11 +37,11 @@ abbrev pub line_to : PlanState → (me : Actor) → (line : Text) → Read Given
 line_to plan (actors.Core j) line = to_core j (core_event_of plan j line)
 line_to plan (actors.Aggregator k) line = to_aggregator k (aggregator_line_of plan k line)
 
--- the line behind its beginning
+-- the line after its beginning
 abbrev pub behind : (front line : Text) → Option Text
 behind front line = if starts_with nat_eq line front then Some (drop (length front) line) else None
 
--- behind the node's word, and behind a space
+-- after the node's word, and after a space
 abbrev pub line_behind : PlanState → (me : Actor) → Option Text → Read Given
 line_behind plan me None = Err faults.Actor
 line_behind plan me (Some line) = line_to plan me line

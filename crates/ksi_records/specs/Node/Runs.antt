@@ -8,8 +8,8 @@ use Rattle.ksi_corenode.specs.SecondState.{SecondState, fresh_second}
 use Rattle.ksi_corenode.specs.Rows.{restart_row}
 use Rattle.ksi_aggregator.specs.Events.{event_second, round_row, MayTake}
 use Rattle.ksi_aggregator.specs.Rows.{RoundState, fresh_round, round_restarted}
-use Rattle.ksi_apart.specs.Logs.{AggregatorAgrees, AggregatorStarts, AtAggregator, AtCore, CoreAgrees, CoreStarts, Deed, Said, core_after, core_says, core_turn, round_after, round_says}
-use Rattle.ksi_apart.specs.Texts.{said_text}
+use Rattle.ksi_records.specs.Logs.{AggregatorAgrees, AggregatorStarts, AtAggregator, AtCore, CoreAgrees, CoreStarts, Deed, Said, core_after, core_says, core_turn, round_after, round_says}
+use Rattle.ksi_records.specs.Texts.{said_text}
 use Rattle.ksi_records.specs.declared.node.head.Given.{Given}
 use Rattle.ksi_records.specs.declared.node.head.Given.TheVariants as given
 use Rattle.ksi_records.specs.declared.node.head.Head.{Head}
@@ -92,7 +92,7 @@ module _ (image : List ℕ → List ℕ) (plan : PlanState) where
   MayCome it (heads.Unsaid given) = IsDue it given
   MayCome it heads.Restarted = Unit {0}
 
-  -- the block is the node's; what was never said has none
+  -- the block is the node's; a step whose reply was lost has none
   abbrev pub IsTold : NodeState → Head → (block : Text) → Type 0
   IsTold it (heads.Said given) block = block ≡ block_to it given
   IsTold it (heads.Unsaid given) block = Unit {0}

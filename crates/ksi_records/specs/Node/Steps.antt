@@ -63,7 +63,7 @@ FitsHead plan me heads.Restarted = Unit {0}
 
 -- ---- reading
 
--- what stands behind a beginning
+-- what follows a beginning
 abbrev pub IsBehind : (expected : Option Text) → Option (Bor Text) → Type 0
 IsBehind expected (Some rest) = expected ≡ Some rest.now
 IsBehind expected None = expected ≡ None
@@ -73,7 +73,7 @@ IsBlockBehind head old new block true = Consumes old new block × HasBlock head 
 IsBlockBehind head old new block false = WantsBlock head × IfSome old IsCutBlock
 
 module _ (plan : PlanState) (me : Actor) where
-  -- a whole entry, and what is left is what stands behind it
+  -- a whole entry, and what is left is what follows it
   abbrev pub IsWhole : (bytes : Text) → (new : Option Text) → (line : Text) → Head → (block : Text) → Type 0
   IsWhole bytes None line head block = ⊥
   IsWhole bytes (Some more) line head block = StandsIn plan me bytes (Whole (record { line = line; head = head; block = block }) more)

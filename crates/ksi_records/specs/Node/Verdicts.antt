@@ -1,4 +1,4 @@
--- The verdict on the log of a node: what stands behind the entries that agree with the node's own run.
+-- The verdict on the log of a node: what follows the entries that agree with the node's own run.
 use Rattle.std.specs.Prelude.{◌≡◌, ◌≢◌, ℕ, ◌+◌, List, [], ◌∷◌, ◌++◌, Err, Ok, ◌⊎◌}
 use Rattle.std.specs.Io.Iter.{u64_saturate}
 use Rattle.std.specs.List.{AllByRecursion}
@@ -8,7 +8,7 @@ use Rattle.ksi_schedule.specs.Pieces.{Text}
 use Rattle.ksi_schedule.specs.Plans.{PlanState}
 use Rattle.ksi_schedule.specs.declared.actor.Actor.{Actor}
 use Rattle.ksi_wire.specs.declared.fault.WireFault.TheVariants.{Taken}
-use Rattle.ksi_apart.specs.Logs.{Deed}
+use Rattle.ksi_records.specs.Logs.{Deed}
 use Rattle.ksi_records.specs.declared.node.fault.LogFault.{LogFault}
 use Rattle.ksi_records.specs.declared.node.fault.LogFault.TheVariants as faults
 use Rattle.ksi_records.specs.declared.node.head.Head.{Head}
@@ -18,7 +18,7 @@ use Rattle.ksi_records.specs.Node.Heads.{head_at}
 use Rattle.ksi_records.specs.Node.Entries.{Entry, entry_text, log_text, HasBlock, WantsBlock}
 use Rattle.ksi_records.specs.Node.Runs.{NodeState, first_state, state_behind, AreWritten, IsOf, IsTold, LogAgrees, MayCome}
 
--- ---- what stands next in a text
+-- ---- what comes next in a text
 
 -- its first line is a line, and says this head, of this node; its block is one
 pub record IsEntry (plan : PlanState) (me : Actor) (entry : Entry) : Type 0 where
@@ -27,7 +27,7 @@ pub record IsEntry (plan : PlanState) (me : Actor) (entry : Entry) : Type 0 wher
   pub own : IsOf me entry.head
   pub block : HasBlock entry.head entry.block
 
--- nothing, a whole entry and what stands behind it, or what is no entry
+-- nothing, a whole entry and what follows it, or what is no entry
 pub data Standing : Type 0 where
   Nothing : Standing
   Whole : Entry → (more : Text) → Standing
@@ -58,7 +58,7 @@ place_behind place block = record { entry = u64_saturate (place.entry + 1); line
 module _ (image : List ℕ → List ℕ) (plan : PlanState) (me : Actor) where
   -- ---- the verdict
 
-  -- the node has this, and this text stands at this place, behind entries that agree: the verdict is this
+  -- the node has this, and this text is at this place, after entries that agree: the verdict is this
   abbrev pub EndsIn : NodeState → Place → (rest : Text) → Verdict → Type 0
   EndsIn it place rest (verdicts.Agrees entries) = StandsIn plan me rest Nothing × (entries ≡ place.entry)
   EndsIn it place rest (verdicts.Differs at) =
@@ -68,7 +68,7 @@ module _ (image : List ℕ → List ℕ) (plan : PlanState) (me : Actor) where
       ⊎ ((entry : Entry) × (more : Text) × StandsIn plan me rest (Whole entry more) × (¬ MayCome image plan it entry.head) × (fault ≡ faults.Line Taken)))
       × (at ≡ place)
 
-  -- These are the first entries of a text, and each block is the node's own at its place. Behind them stands what the verdict
+  -- These are the first entries of a text, and each block is the node's own at its place. After them follows what the verdict
   -- is of.
   abbrev pub IsVerdict : NodeState → Place → List Entry → (text : Text) → Verdict → Type 0
   IsVerdict it place [] text verdict = EndsIn it place text verdict

@@ -28,7 +28,7 @@ pub(crate) fn put_node(text: &mut Vec<u8>, actor: Actor) -> Result<(), NoMemory>
     put_number(text, number)
 }
 
-/// The words of a place, each behind a space.
+/// The words of a place, each after a space.
 pub(crate) fn put_place(text: &mut Vec<u8>, place: Place) -> Result<(), NoMemory>
     ensures { OnOk result (text.new.items ≡ text.old.items ++ spaced (place_words place)) }
 {

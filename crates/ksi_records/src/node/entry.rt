@@ -23,7 +23,7 @@ pub(crate) enum Next {
     End,
 }
 
-/// The next entry of the log of a node: its first line stands in `line`, and its block, if it has one, in `block`.
+/// The next entry of the log of a node: its first line is in `line`, and its block, if it has one, in `block`.
 pub(crate) fn next_entry<S: BufRead>(
     alloc: Global,
     plan: &Plan,
@@ -55,7 +55,7 @@ pub(crate) fn next_entry<S: BufRead>(
     }
 }
 
-/// The block behind a first line, if it has one. The answer is whether it is whole.
+/// The block after a first line, if it has one. Returns whether it is whole.
 fn next_block<S: BufRead>(log: &mut S, head: &Head, block: &mut Vec<u8>) -> io::Result<bool>
     ensures { IfOk result (IsBlockBehind head.now (S.remaining log.old) (S.remaining log.new) block.new.items) }
 {

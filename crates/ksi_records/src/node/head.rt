@@ -15,7 +15,7 @@ pub enum Given {
 pub enum Head {
     /// The node took this, and its block follows.
     Said(Given),
-    /// The node took this and stored what came of it, and never said it. No block follows.
+    /// The node took this and stored the result, but its reply was lost. No block follows.
     Unsaid(Given),
     /// The node was started again. No block follows.
     Restarted,

@@ -18,7 +18,7 @@ use std::alloc::Global;
 /// What the first line of an entry says in the log of a node, whose word is `word`.
 ///
 /// # Errors
-/// `Actor`: the line is of another node. Else the fault of the line, as the node itself tells it. `NoMemory`.
+/// `Actor`: the line is of another node. Else the fault of the line, as the node itself reports it. `NoMemory`.
 pub(crate) fn read_head(
     alloc: Global,
     plan: &Plan,
@@ -74,7 +74,7 @@ fn step(
     }
 }
 
-/// What the node took, behind its word and a space.
+/// What the node took, after its word and a space.
 fn given(
     alloc: Global,
     plan: &Plan,
@@ -134,7 +134,7 @@ fn to_aggregator(
     }
 }
 
-/// What stands in a line behind a beginning, if it begins so.
+/// What follows a beginning of a line, if it begins so.
 fn behind<'a>(front: &[u8], line: &'a [u8]) -> Option<&'a [u8]>
     ensures { IsBehind (behind front.now line.now) result }
 {

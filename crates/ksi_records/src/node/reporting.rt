@@ -15,7 +15,7 @@ use ksi_schedule::{Actor, Plan};
 use std::alloc::Global;
 use std::io::{self, BufRead, Write};
 
-/// Holds the log of a node of the plan against the node's own run, and writes the line of the verdict. The result is the exit
+/// Compares the log of a node of the plan with the node's own run, and writes the line of the verdict. The result is the exit
 /// status.
 ///
 /// # Errors

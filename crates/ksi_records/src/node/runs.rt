@@ -28,7 +28,7 @@ pub(crate) enum Held {
     Told,
     /// Its block is another.
     Differs,
-    /// The number of its request stands for another request.
+    /// The number of its request is that of another request.
     Taken,
 }
 
@@ -83,7 +83,7 @@ impl<C: Compress> Node<C> {
         }
     }
 
-    /// What the node says to what it takes. Nothing where the number of a request stands for another request.
+    /// The node's block for what it takes. Nothing if the number of a request is that of another request.
     fn take(
         &mut self,
         alloc: Global,

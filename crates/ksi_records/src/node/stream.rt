@@ -1,4 +1,4 @@
-//! A log, held against the node's own run.
+//! A log, compared with the node's own run.
 ghost use Rattle.std.specs.Prelude.{◌≡◌, IfOk, IfSome, List};
 ghost use Rattle.ksi_schedule.specs.Printed.{actor_word};
 ghost use Rattle.ksi_records.specs.Node.Entries.{Entry};
@@ -17,8 +17,8 @@ use ksi_wire::WireFault;
 use std::alloc::Global;
 use std::io::{self, BufRead};
 
-/// Holds the log of a node of the plan against the node's own run: the verdict is what stands behind the entries that agree,
-/// and there is no other. Where it agrees, the values of the log's text are a log of the node that agrees with the node's rows
+/// Compares the log of a node of the plan with the node's own run: the verdict is on what follows the entries that agree,
+/// and there is no other. If it agrees, the values of the log's text are a log of the node that agrees with the node's rows
 /// alone. It takes the memory of the node and of one entry.
 ///
 /// # Errors

@@ -41,8 +41,8 @@ pub fn inside_is_whole()
         container_verdict t place inside body ≡ Ok tt → IsContainer t inside body (whole (elements inside body)) }
 {}
 
-/// Elements that a container may hold are accepted as they are written, wherever the container stands, and are then
-/// found in it.
+/// Elements that a container may have are accepted as they are written, wherever the container is, and are then found in
+/// it.
 pub fn written_is_whole()
     ensures { (t : Table) (place inside : ℕ) (es : List Tlv) → MayBeWritten t es →
         (container_verdict t place inside (texts es) ≡ Ok tt) × (whole (elements inside (texts es)) ≡ placed inside es) }

@@ -9,8 +9,8 @@ use crate::grammar::rule::{Over, Rule, Seen};
 use crate::grammar::table::Grammar;
 use crate::{Elements, Placed};
 
-/// Reads the body of a container that stands at a place, the body's first byte inside: nothing where it may stand
-/// there, else its first fault.
+/// Reads the body of a container at a place, the body's first byte inside: nothing if it is valid there, otherwise its
+/// first fault.
 pub fn check<G: Grammar>(place: usize, inside: usize, body: &[u8]) -> Result<(), ElementFault>
     requires { inside + length body.now < 2 ^ 64 }
     ensures ok { IsOk result ↔ IsWhole G.table inside body.now }

@@ -24,7 +24,7 @@ pub trait Grammar {
     fn content(at: &Placed<'_>) -> Result<(), ElementFault>
         ensures { result ≡ table.content (view_placed at.now) };
 
-    /// What is missing at the end of a container that stands at a place.
+    /// The element that is missing at the end of a container at a place.
     fn end(seen: &Seen, place: usize) -> Result<(), ElementFault>
         ensures { result ≡ lack_of table seen.now place };
 

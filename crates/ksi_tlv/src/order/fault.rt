@@ -3,7 +3,7 @@
 pub enum OrderFault {
     /// The header or the body at this place passes the end of what holds it.
     Tlv(usize),
-    /// An element of a kind that may not stand there, or a value that does not rise.
+    /// An element of a kind that is not allowed there, or a value that does not rise.
     Order(usize),
     /// A further element must stand there, or none may.
     Ends(usize),

@@ -6,7 +6,7 @@ ghost use Rattle.ksi_tlv.specs.Left.{left, IsField};
 use crate::order::fault::OrderFault;
 use crate::{Elements, Placed};
 
-/// The elements inside an element, each of which must stand in its place.
+/// The elements inside an element, each of which must be in its place.
 #[derive(Drop)]
 pub struct Fields<'a> {
     elements: Elements<'a>,
@@ -42,7 +42,7 @@ impl<'a> Fields<'a> {
         }
     }
 
-    /// Nothing may stand behind the last.
+    /// Nothing may follow the last one.
     #[tactic(auto, unfolding(crate::specs::Fields::done))]
     pub fn done(mut self) -> Result<(), OrderFault>
         ensures { result ≡ done (left self.entry) }

@@ -9,11 +9,11 @@ use crate::order::fault::OrderFault;
 use crate::{Elements, Placed, TlvFault};
 use ksi_imprint::Refused;
 
-/// What the elements so far say, and what may stand behind them. `F` has the faults that the elements can have.
+/// The value of the elements so far, and which may follow them. `F` has the faults that the elements can have.
 pub trait Ordered<F> {
     ghost order: { Order Self F };
 
-    /// What is known of an element for which memory was wanting, behind what the state says.
+    /// What is known of an element for which memory ran out, behind what the state says.
     ghost wants: { Self → PlacedTlv → Type 0 };
 
     /// Whether an element of the kind may stand next.
@@ -32,19 +32,19 @@ pub trait Ordered<F> {
     fn named(fault: OrderFault) -> F
         ensures { result ≡ order.named fault };
 
-    /// One element more, of a kind that may stand.
+    /// One element more, of a kind that is allowed there.
     fn take(&mut self, at: &Placed<'_>) -> Result<(), Refused<F>>
         ensures read { Steps (order.read self.old (view_placed at.now)) self.new result }
         ensures wanting { result ≡ Err refused.NoMemory → wants self.old (view_placed at.now) };
 }
 
-/// Reads the elements of bytes, whose first byte stands at a place, one after the other.
+/// Reads the elements of bytes, whose first byte is at a place, one after the other.
 pub fn walk<F, S: Ordered<F>>(state: &mut S, place: usize, bytes: &[u8]) -> Result<(), Refused<F>>
     requires { place + length bytes.now < 2 ^ 64 }
     // Whole elements in their order lead to the new state, or the first fault stands there.
     ensures told { Tells S.order (place + length bytes.now) (elements place bytes.now) state.old state.new result }
     ensures exact { Steps (walked S.order (place + length bytes.now) (elements place bytes.now) state.old) state.new result }
-    // Memory was wanting for an element before which there is no fault.
+    // Memory ran out for an element before which there is no fault.
     ensures wanting { result ≡ Err refused.NoMemory → IsWanting S.order S.wants (elements place bytes.now) state.old }
 {
     go(state, place, bytes)

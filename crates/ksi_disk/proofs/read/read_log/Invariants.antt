@@ -8,7 +8,7 @@ abbrev pub invariant-reading : goal.invariant-reading
 invariant-reading g l =
     let file = g.D.Disk.content l.fn.disk in
     record {
-      so_far : reading_of l.from file ≡ behind l.records.items (reading_at l.place (drop l.place file));
+      so_far : reading_of l.from file ≡ behind l.records (reading_at l.place (drop l.place file));
       within : l.place ≤ l.len;
       stays : g.D.Disk.content l.disk ≡ file;
       nothing : WroteNothing g.D.Disk.images g.D.Disk.moment g.D.Disk.images_since g.D.Disk.meter l.fn.disk l.disk;

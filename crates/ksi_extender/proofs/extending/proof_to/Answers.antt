@@ -44,7 +44,7 @@ returns-clause-published g c =
     let seconds = c.calendar.result.now in
     let within = ((c.calendar_is_covered.ensures.within image journal p c.requires.journal).1 c.requires.covered).1 in
     let leaf = c.calendar_is_covered.ensures.leaves image journal t c.requires.journal (omega (arith, within, c.requires.to)) ∙ c.requires.root in
-    let hash = hash_is image seconds (calendar_of journal) t p c.args.chains.now.item.imprint c.climb_calendar-root.result c.in_ok-links.links c.as_slice.result.now
+    let hash = hash_is image seconds (calendar_of journal) t p c.args.chains.now.node.imprint c.climb_calendar-root.result c.in_ok-links.links c.as_slice.result.now
     (c.one_climb.ensures.value image (calendar_leaf seconds t) (calendar_root image seconds p) c.in_ok-links.links).0
     c.calendar.ensures c.in_ok-links.ensures.climbs leaf c.as_slice.ensures c.climb_calendar-root.ensures.value in
     c.record.ensures ∙ ap (record_with p) (hash ∙ c.calendar_is_covered.ensures.root image journal p c.requires.journal c.requires.covered)

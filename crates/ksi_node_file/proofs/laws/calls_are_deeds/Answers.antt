@@ -1,4 +1,4 @@
-use Rattle.ksi_node_file.proofs.Calls.{OneFile, took, opened, cut_off}
+use Rattle.ksi_node_file.proofs.Calls.{OneFile, took, opened, cut_off, same_file}
 use Rattle.ksi_node_file.proofs.laws.calls_are_deeds.Goals as goal
 
 pub returns : goal.returns
@@ -14,4 +14,5 @@ returns g c =
       opened = λ me plan file store opens. opened image content images others left_by one me plan opens.0 store opens.2 opens.3;
       cut_off = λ me plan facts old new asked file store is leaves left opens stays.
           cut_off image content images others left_by one me plan facts opens.0 old asked file store is (leaves.each file left) stays opens.2 opens.3;
+      refused = λ old new same. record { core = same.core; file = same_file content old new same.log };
     }

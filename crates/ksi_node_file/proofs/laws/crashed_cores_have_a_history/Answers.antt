@@ -1,7 +1,7 @@
 use Rattle.std.proofs.Common.{List, ℕ, sym, ap, ◌∙◌}
 use Rattle.ksi_corenode.specs.SecondState.{SecondState}
 use Rattle.ksi_schedule.specs.Plans.{PlanState, IsPlan}
-use Rattle.ksi_node_file.proofs.Crashing.{Laws, first_core, runs_after, sent_after}
+use Rattle.ksi_node_file.proofs.Crashing.{Laws, answered_after, first_core, runs_after, sent_after}
 use Rattle.ksi_node_file.proofs.laws.crashed_cores_have_a_history.Goals as goal
 
 pub returns : goal.returns
@@ -31,6 +31,7 @@ returns c =
       run = λ image plan is deeds before old new are cores runs. runs_after image plan (laws image plan is) deeds before old new are cores runs;
       messages = λ image plan is before event j old new asked core here took.
           sent_after image plan (laws image plan is) (λ w core event one asked. turns.sends image plan w core event one asked) before event j old new asked core here took;
+      answers = λ image plan is before event j old new asked core here took. answered_after image plan (laws image plan is) before event j old new asked core here took;
       agree = λ image plan is events one other second running others root found are core another holds held.
           c.agreement.ensures image (record { plan = plan; events = events }) is are one other second root found
           (ap (λ (s : SecondState). s.vote.held) (sym (core.keeps second)) ∙ holds) (ap (λ (s : SecondState). s.vote.held) (sym (another.keeps second)) ∙ held);

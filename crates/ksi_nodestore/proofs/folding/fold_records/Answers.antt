@@ -13,8 +13,8 @@ pub returns-then-not-branch : goal.returns-then-not-branch
 returns-then-not-branch g c =
     let records = c.args.records.now in
     let k = c.folding.k in
-    let content = c.as_slice-content.result.now in
-    let is : content ≡ get_or records k content = subst (λ (x : List ℕ). x ≡ get_or records k x) (sym c.as_slice-content.ensures) c.index-records-k.is in
+    let content = c.get-content.result.now in
+    let is : content ≡ get_or records k content = c.get-content.ensures content in
     let of = c.folding.invariant.so_far in
     let none = subst (λ (b : Bool). GoesOn g.C.Compress.image c.args.me c.args.plan.now of.0 content c.fold_record.new.core b) c.if-not-branch.true (c.in_ok-fold_record.ensures c.args.me c.args.plan.now of.0 of.1.lawful of.2) in
     fault_here c.args.plan.now.cores c.args.plan.now.start of.0 records k c.folding.place content (omega arith) is c.folding.invariant.here of.1 none
@@ -23,8 +23,8 @@ pub overflow_add-place-in-folding : goal.overflow_add-place-in-folding
 overflow_add-place-in-folding g c =
     let records = c.args.records.now in
     let k = c.folding.k in
-    let content = c.as_slice-content.result.now in
-    let is : content ≡ get_or records k content = subst (λ (x : List ℕ). x ≡ get_or records k x) (sym c.as_slice-content.ensures) c.index-records-k.is in
+    let content = c.get-content.result.now in
+    let is : content ≡ get_or records k content = c.get-content.ensures content in
     let more = place_more records k c.folding.place content (omega arith) is c.folding.invariant.here in
     omega (arith, more, place_within records (k + 1))
 
@@ -32,8 +32,8 @@ pub folding-preserved : goal.folding-preserved
 folding-preserved g c =
     let records = c.args.records.now in
     let k = c.folding.k in
-    let content = c.as_slice-content.result.now in
-    let is : content ≡ get_or records k content = subst (λ (x : List ℕ). x ≡ get_or records k x) (sym c.as_slice-content.ensures) c.index-records-k.is in
+    let content = c.get-content.result.now in
+    let is : content ≡ get_or records k content = c.get-content.ensures content in
     let of = c.folding.invariant.so_far in
     let on = subst (λ (b : Bool). GoesOn g.C.Compress.image c.args.me c.args.plan.now of.0 content c.fold_record.new.core b) c.if-not-branch.false (c.in_ok-fold_record.ensures c.args.me c.args.plan.now of.0 of.1.lawful of.2) in
     record {

@@ -11,7 +11,7 @@ returns-in-Closed-clause-found g c = λ file head fits records_is ending_is.
     let inside = c.closed_gates_are_in_the_file.ensures 18 file gate closed in
     record {
       head = head;
-      folded = subst (λ (rs : List (List ℕ)). IsCoreOf g.C.Compress.image c.args.me c.args.plan.now rs c.in_ok-core.core) (c.deref.ensures.value ∙ records_is) c.in_ok-core.ensures;
+      folded = subst (λ (rs : List (List ℕ)). IsCoreOf g.C.Compress.image c.args.me c.args.plan.now rs c.in_ok-core.core) records_is c.in_ok-core.ensures;
       closed = closed;
       within = omega (arith, inside, fits);
       counted = omega (arith, c.len-records.ensures, ap length records_is);

@@ -4,7 +4,7 @@ use Rattle.ksi_schedule.specs.Pieces.{Text}
 use Rattle.ksi_schedule.specs.Printed.{line_of, text_of_lines}
 use Rattle.ksi_world.specs.declared.message.Message.{Message}
 use Rattle.ksi_world.specs.Messages.{lent_message}
-use Rattle.ksi_apart.specs.Texts.{message_words}
+use Rattle.ksi_records.specs.Texts.{message_words}
 use Rattle.ksi_records.proofs.WireLemmas.{from_number}
 use Rattle.ksi_records.proofs.telling.put_messages.Goals as goal
 

@@ -12,8 +12,8 @@ pub noting-preserved : goal.noting-preserved
 noting-preserved c = λ facts are t.
     let records = c.args.records.now in
     let k = c.noting.k in
-    let content = c.as_slice.result.now in
-    let is : content ≡ get_or records k content = subst (λ (x : List ℕ). x ≡ get_or records k x) (sym c.as_slice.ensures) c.index-records-k.is in
+    let content = c.get.result.now in
+    let is : content ≡ get_or records k content = c.get.ensures content in
     noted_more c.args.plan.now c.args.me c.facts_one_by_one.ensures.stored facts records k content are (omega arith) is
     (λ u. contains nat_cmp c.noting.answered u) (λ u. contains nat_cmp c.note.new.answered u) (c.noting.invariant facts are) c.in_ok-note.ensures t
 

@@ -7,4 +7,4 @@ returns-clause-left g c =
     let content = g.D.Disk.content in
     c.in_ok-left.ensures c.requires.file.0 (content c.args.disk.now) c.requires.file.1
     (c.in_ok-header.ensures.front ∙ ap (λ (file : List ℕ). take 20 file) c.in_ok-len.ensures.stays)
-    (c.deref.ensures.value ∙ c.in_ok-log.ensures.records ∙ ap (λ (file : List ℕ). (reading_of 20 file).records) (c.in_ok-header.ensures.stays ∙ c.in_ok-len.ensures.stays))
+    (c.in_ok-log.ensures.records ∙ ap (λ (file : List ℕ). (reading_of 20 file).records) (c.in_ok-header.ensures.stays ∙ c.in_ok-len.ensures.stays))

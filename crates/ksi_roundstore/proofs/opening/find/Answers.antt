@@ -11,7 +11,7 @@ returns-in-Closed-clause-found g c = λ file head fits records_is ending_is.
     let inside = c.closed_gates_are_in_the_file.ensures 20 file gate closed in
     record {
       head = head;
-      folded = subst (λ (rs : List (List ℕ)). IsAggregatorOf c.args.plan.now c.args.me rs c.in_ok-aggregator.aggregator) (c.deref.ensures.value ∙ records_is) c.in_ok-aggregator.ensures;
+      folded = subst (λ (rs : List (List ℕ)). IsAggregatorOf c.args.plan.now c.args.me rs c.in_ok-aggregator.aggregator) records_is c.in_ok-aggregator.ensures;
       closed = closed;
       within = omega (arith, inside, fits);
       counted = omega (arith, c.len-records.ensures, ap length records_is);

@@ -12,7 +12,7 @@ pub putting-preserved : goal.putting-preserved
 putting-preserved c =
     let records = c.args.records.now in
     let k = c.putting.k in
-    let content = c.as_slice.result.now in
-    let is : content ≡ get_or records k content = subst (λ (x : List ℕ). x ≡ get_or records k x) (sym c.as_slice.ensures) c.index-records-k.is in
+    let content = c.get.result.now in
+    let is : content ≡ get_or records k content = c.get.ensures content in
     put_more c.args.plan.now c.args.me (λ t. nat_lt t c.args.before && contains nat_cmp c.args.answered.now t) records k content c.args.text.now.items c.putting.text.items c.put_left.new.text.items c.putting.count c.in_ok-more.more (omega arith) is
     c.putting.invariant c.in_ok-more.ensures

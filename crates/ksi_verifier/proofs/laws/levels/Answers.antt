@@ -2,7 +2,7 @@ use Rattle.ksi_verifier.proofs.Levels.{tops_both, first_over}
 use Rattle.ksi_verifier.proofs.laws.levels.Goals as goal
 
 pub returns-clause-items : goal.returns-clause-items
-returns-clause-items c = λ image chains items. tops_both image (λ start top links. c.one_climb.ensures.climbs image start top links) 0 0 chains items
+returns-clause-items c = λ image chains nodes. tops_both image (λ start top links. c.one_climb.ensures.climbs image start top links) 0 0 chains nodes
 
 pub returns-clause-over : goal.returns-clause-over
 returns-clause-over c = λ image chains chain link level.

@@ -8,7 +8,7 @@ pub returns : goal.returns
 returns g c =
     let inside = c.self.inside in
     let t = c.args.second in
-    let old : CoreState = record { me = inside.me; plan = inside.plan; start = inside.stable_parts.start; settled = inside.stable_parts.settled; unsettled = inside.stable_parts.unsettled; items = inside.items.items; volatile_parts = inside.volatile_parts.entries } in
+    let old : CoreState = record { me = inside.me; plan = inside.plan; start = inside.stable_parts.start; bare = inside.stable_parts.bare; settled = inside.stable_parts.settled; unsettled = inside.stable_parts.unsettled; items = inside.items.items; volatile_parts = inside.volatile_parts.entries } in
     let new : CoreState = record old { volatile_parts = c.forget_items.new.volatile_parts.entries } in
     let volatile : VolatileState = record (volatile_at old.volatile_parts t) { open_items = [] } in
     subst (λ (core : CoreState). IsChange core new t (record (state_of core t) { open_items = [] })) c.self.view_is

@@ -20,7 +20,7 @@ pub put-requires-clause-held : goal.put-requires-clause-held
 put-requires-clause-held g c root is =
     let inside = c.self.inside in
     let t = c.args.second in
-    let old : CoreState = record { me = inside.me; plan = inside.plan; start = inside.stable_parts.start; settled = inside.stable_parts.settled; unsettled = inside.stable_parts.unsettled; items = inside.items.items; volatile_parts = inside.volatile_parts.entries } in
+    let old : CoreState = record { me = inside.me; plan = inside.plan; start = inside.stable_parts.start; bare = inside.stable_parts.bare; settled = inside.stable_parts.settled; unsettled = inside.stable_parts.unsettled; items = inside.items.items; volatile_parts = inside.volatile_parts.entries } in
     let vote_is = c.vote-vote.ensures ∙ sym (ap (λ (core : CoreState). (state_of core t).vote) c.self.view_is) in
     let stable = c.stable.ensures ∙ ap stable_of c.candidate.ensures ∙ sealed_stable old t c.vote-vote.result c.args.candidate vote_is in
     ap (λ (s : StableVote). s.held) stable ∙ sym (ap (λ (s : StablePart). s.vote.held) (c.make_place.ensures.at t)) ∙ is
@@ -30,7 +30,7 @@ invariant_of-self-2 g c =
     let image = g.C.Compress.image in
     let inside = c.self.inside in
     let t = c.args.second in
-    let old : CoreState = record { me = inside.me; plan = inside.plan; start = inside.stable_parts.start; settled = inside.stable_parts.settled; unsettled = inside.stable_parts.unsettled; items = inside.items.items; volatile_parts = inside.volatile_parts.entries } in
+    let old : CoreState = record { me = inside.me; plan = inside.plan; start = inside.stable_parts.start; bare = inside.stable_parts.bare; settled = inside.stable_parts.settled; unsettled = inside.stable_parts.unsettled; items = inside.items.items; volatile_parts = inside.volatile_parts.entries } in
     let more : List Entry = c.args.items.now in
     let candidate = c.args.candidate in
     let vote_is = c.vote-vote.ensures ∙ sym (ap (λ (core : CoreState). (state_of core t).vote) c.self.view_is) in
@@ -59,8 +59,8 @@ returns-clause-change g c =
     let image = g.C.Compress.image in
     let inside = c.self.inside in
     let t = c.args.second in
-    let old : CoreState = record { me = inside.me; plan = inside.plan; start = inside.stable_parts.start; settled = inside.stable_parts.settled; unsettled = inside.stable_parts.unsettled; items = inside.items.items; volatile_parts = inside.volatile_parts.entries } in
-    let new : CoreState = record { me = inside.me; plan = inside.plan; start = c.put.new.self.start; settled = c.put.new.self.settled; unsettled = c.put.new.self.unsettled; items = c.extend_from_slice.new.self.items; volatile_parts = inside.volatile_parts.entries } in
+    let old : CoreState = record { me = inside.me; plan = inside.plan; start = inside.stable_parts.start; bare = inside.stable_parts.bare; settled = inside.stable_parts.settled; unsettled = inside.stable_parts.unsettled; items = inside.items.items; volatile_parts = inside.volatile_parts.entries } in
+    let new : CoreState = record { me = inside.me; plan = inside.plan; start = c.put.new.self.start; bare = c.put.new.self.bare; settled = c.put.new.self.settled; unsettled = c.put.new.self.unsettled; items = c.extend_from_slice.new.self.items; volatile_parts = inside.volatile_parts.entries } in
     let more : List Entry = c.args.items.now in
     let candidate = c.args.candidate in
     let vote_is = c.vote-vote.ensures ∙ sym (ap (λ (core : CoreState). (state_of core t).vote) c.self.view_is) in

@@ -33,8 +33,8 @@ returns g c =
     let inside = c.self.inside in
     let t = c.args.second in
     let vote = c.args.vote.now in
-    let old : CoreState = record { me = inside.me; plan = inside.plan; start = inside.stable_parts.start; settled = inside.stable_parts.settled; unsettled = inside.stable_parts.unsettled; items = inside.items.items; volatile_parts = inside.volatile_parts.entries } in
-    let new : CoreState = record { me = inside.me; plan = inside.plan; start = c.put.new.self.start; settled = c.put.new.self.settled; unsettled = c.put.new.self.unsettled; items = inside.items.items; volatile_parts = c.put_hand.new.volatile_parts.entries } in
+    let old : CoreState = record { me = inside.me; plan = inside.plan; start = inside.stable_parts.start; bare = inside.stable_parts.bare; settled = inside.stable_parts.settled; unsettled = inside.stable_parts.unsettled; items = inside.items.items; volatile_parts = inside.volatile_parts.entries } in
+    let new : CoreState = record { me = inside.me; plan = inside.plan; start = c.put.new.self.start; bare = c.put.new.self.bare; settled = c.put.new.self.settled; unsettled = c.put.new.self.unsettled; items = inside.items.items; volatile_parts = c.put_hand.new.volatile_parts.entries } in
     let part : StablePart = record { vote = c.stable.result; first = c.part-old.result.first; count = c.part-old.result.count } in
     let part_is = c.part-old.ensures ∙ sym (ap (λ (core : CoreState). stable_at core t) c.self.view_is) in
     let volatile : VolatileState = record (volatile_at inside.volatile_parts.entries t) { hand = c.hand.result } in

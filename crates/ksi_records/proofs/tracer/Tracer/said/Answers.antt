@@ -11,9 +11,10 @@ returns-then-branch-clause-answer g c =
     let old = c.args.self.now in
     let before = c.in_ok-before.before in
     let sent = ap (λ (ms : List Message). drop before ms) (c.wire.ensures.wire ∙ ap (λ (h : History). (world_of image h).wire) c.in_ok-before.ensures.event) in
+    let come = (c.in_ok-has_come.ensures c.in_ok-before.ensures.named).0 c.if-not-has_come.false in
     let told = c.in_ok-is_block.ensures.0 c.if-branch.true in
     let block = step_block image old.plan old.events c.args.given.now before c.in_ok-before.answer (drop before c.wire.result.now) told.0 c.in_ok-before.ensures.before c.in_ok-before.ensures.answer sent in
-    ((c.in_ok-before.ensures.named, told.0, told.1 ∙ block), refl)
+    ((c.in_ok-before.ensures.named, come, told.0, told.1 ∙ block), refl)
 
 pub returns-else-branch-clause-answer : goal.returns-else-branch-clause-answer
 returns-else-branch-clause-answer g c =
@@ -23,7 +24,7 @@ returns-else-branch-clause-answer g c =
     let sent = ap (λ (ms : List Message). drop before ms) (c.wire.ensures.wire ∙ ap (λ (h : History). (world_of image h).wire) c.in_ok-before.ensures.event) in (
       c.in_ok-before.ensures.named,
       λ told.
-          let block = step_block image old.plan old.events c.args.given.now before c.in_ok-before.answer (drop before c.wire.result.now) told.1 c.in_ok-before.ensures.before c.in_ok-before.ensures.answer sent in
-          let yes = c.in_ok-is_block.ensures.1 (told.1, told.2 ∙ sym block) in
+          let block = step_block image old.plan old.events c.args.given.now before c.in_ok-before.answer (drop before c.wire.result.now) told.2 c.in_ok-before.ensures.before c.in_ok-before.ensures.answer sent in
+          let yes = c.in_ok-is_block.ensures.1 (told.2, told.3 ∙ sym block) in
           absurd (cc (yes, c.if-branch.false)),
     )

@@ -14,4 +14,4 @@ returns-clause-answer g c =
     let sent = ap (λ (ms : List Message). drop before ms) (c.wire.ensures.wire ∙ ap (λ (h : History). (world_of image h).wire) c.in_ok-before.ensures.event) in
     let block = step_block image old.plan old.events c.args.given.now before c.in_ok-before.answer (drop before c.wire.result.now) false c.in_ok-before.ensures.before c.in_ok-before.ensures.answer sent in
     let none : c.args.said.now ≡ [] = grind (arith, common_steps) in
-    ((c.in_ok-before.ensures.named, none), c.from_vec.ensures ∙ c.in_ok-text.ensures ∙ block)
+    ((c.in_ok-before.ensures.named, (c.in_ok-has_come.ensures c.in_ok-before.ensures.named).0 c.if-not-has_come.false, none), c.from_vec.ensures ∙ c.in_ok-text.ensures ∙ block)

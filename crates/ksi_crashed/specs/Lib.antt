@@ -1,4 +1,0 @@
-pub mod RoundFacts
-pub mod Aggregators
-pub mod Crashed
-pub mod AsNode

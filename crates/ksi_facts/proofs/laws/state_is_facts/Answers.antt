@@ -1,9 +1,0 @@
-use Rattle.ksi_facts.proofs.Voters.{planned}
-use Rattle.ksi_facts.proofs.Recalling.{after_seconds, after_rounds}
-use Rattle.ksi_facts.proofs.laws.state_is_facts.Goals as goal
-
-pub returns-clause-seconds : goal.returns-clause-seconds
-returns-clause-seconds c = λ image h is core second. (after_seconds image h.plan (planned c.voters_are_cores.ensures.voters h.plan is) h.events core second).kept
-
-pub returns-clause-rounds : goal.returns-clause-rounds
-returns-clause-rounds c = λ image h is aggregator second. (after_rounds image h.plan (planned c.voters_are_cores.ensures.voters h.plan is) h.events aggregator second).kept

@@ -1,0 +1,16 @@
+pub mod Naming
+pub mod Closing
+pub mod FactsMore
+pub mod Answering
+pub mod Forgetful
+pub mod Renumbering
+pub mod Below
+pub mod Stepping
+pub mod Forgetting
+pub mod CoreStepping
+pub mod CoreCalls
+pub mod Deeds
+pub mod Issuing
+pub mod Calls
+pub mod OneNode
+pub mod Headline

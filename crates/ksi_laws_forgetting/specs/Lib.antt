@@ -1,0 +1,3 @@
+pub mod Forgotten
+pub mod Left
+pub mod Horizon

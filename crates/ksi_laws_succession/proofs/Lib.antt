@@ -1,0 +1,4 @@
+pub mod Unasked
+pub mod Deciding
+pub mod Retiring
+pub mod Examples

@@ -1,0 +1,6 @@
+mod Lines
+mod Pieces
+mod SayLemmas
+mod ServeLemmas
+mod RoundWritten
+mod Planned

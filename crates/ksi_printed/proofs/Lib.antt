@@ -1,0 +1,4 @@
+pub mod Checks
+pub mod Sums
+pub mod Again
+pub mod Loops

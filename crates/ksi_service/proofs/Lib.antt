@@ -1,5 +1,0 @@
-mod Lines
-mod Pieces
-mod SayLemmas
-mod ServeLemmas
-mod RoundWritten
