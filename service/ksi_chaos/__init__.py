@@ -1,1 +1,1 @@
-"""A service with everything going wrong, and the judgement of what came of it: see `service/chaos`."""
+"""A service while everything goes wrong, and the judgement of the run: see `service/chaos`."""

@@ -1,5 +1,5 @@
-"""What came of a run: every signature that a client got is on the record, is the proved world's, extends, is accepted and is found in the
-cores' mirrors; no fact that a node acknowledged is lost; and the record, as a schedule, replays to the same bytes."""
+"""Judges a run. Every signature that a client got is on the record, equals the proved model's, extends, is accepted and is found in the
+cores' mirrors. No fact that a node acknowledged is lost. The record, as a schedule, replays to the same bytes."""
 import os
 
 from ksi_service import check, replay
@@ -11,7 +11,7 @@ def picked(spans, share):
 
 
 def judge(run, room, extensions, audits):
-    """The rows of the table of what was found, with so many signatures extended and audited. Raises Differs where anything is wrong."""
+    """The rows of the table, with this many signatures extended and audited. Raises Differs if anything is wrong."""
     handed = {bytes.fromhex(it.text) for it in told(os.path.join(run.folder, "record")) if isinstance(it, Signed)}
     lost = sum(content not in handed for content in run.signed.values())
     if lost:
@@ -19,8 +19,8 @@ def judge(run, room, extensions, audits):
     found = check.check(run.folder, extensions, audits=audits)
     rows = [("signatures that clients got, all on the record", len(run.signed)),
             ("from a request to its signature: median, 99 in 100, longest", ", ".join(picked(run.spans, share) for share in (0.5, 0.99, 1))),
-            ("steps, each with the proved world's block (`ksi_retrace`); of them never said", f"{found.steps}; {found.unsaid}"),
-            ("signatures handed out, each byte for byte the world's", found.signatures),
+            ("steps, each with the proved model's block (`ksi_retrace`); of them without a reply", f"{found.steps}; {found.unsaid}"),
+            ("signatures handed out, each byte for byte the model's", found.signatures),
             ("facts that nodes acknowledged and did not forget, all in their files", found.facts),
             ("publications, all answers of cores", found.publications),
             ("signatures extended, and accepted by `ksi verify`", found.extended),

@@ -1,41 +1,41 @@
-"""What a power cut may leave of a file: what was written and not yet synced may be there, or not, or be other bytes."""
+"""The state of a file after a power cut: bytes that were written and not synced may be there, be missing, or be others."""
 import fcntl
 
-HEADERS = {b"KSINODE1": 18, b"KSIROUN1": 20}
-"""The bytes before the first gate, by the first eight."""
+from ksi_service.marks import HEADERS
+
 OPEN, CLOSED = b"\x01", b"\x00"
 MOST_NOISE = 200
 SECTOR = 512
 
 
 def gate_behind(content, facts):
-    """The place of the gate behind so many facts (docs/FORMATS.md, "Node files" and "Files of aggregators")."""
+    """The place of the commit byte after this many facts (docs/FORMATS.md, "Node files" and "Files of aggregators")."""
     at = HEADERS[content[:8]]
     for _ in range(facts):
         at += 5 + int.from_bytes(content[at + 1:at + 5], "big")
     return at
 
 
-def image_of(content, facts, dice):
-    """A node's file whose facts up to here were acknowledged, torn. The node writes a record behind the closed gate, and syncs it;
-    then it opens the gate, and syncs that."""
-    at = gate_behind(content, facts)
+def image_of(content, at, dice):
+    """A torn node file whose facts up to this place were acknowledged. The node writes a record after the closed commit byte and syncs it;
+    then it opens the commit byte and syncs that."""
     if content[at:at + 1] == OPEN:
         return content[:at] + dice.choice([OPEN, CLOSED, dice.randbytes(1)]) + content[at + 1:]
     return content[:at + 1] + dice.randbytes(dice.randrange(MOST_NOISE))
 
 
-def tear(path, facts, dice):
-    """Tears a node's file. Returns whether it did: not while a process has the file, nor before its first fact."""
+def tear(path, facts, dice, place=None):
+    """Tears a node's file after this number of facts, or after this place if it is known. Returns whether it did: not while a process has the
+    file, nor before its first fact."""
     with open(path, "r+b") as file:
         try:
             fcntl.flock(file, fcntl.LOCK_EX | fcntl.LOCK_NB)
         except OSError:
             return False
         content = file.read()
-        if content[:8] not in HEADERS:
+        if place is None and content[:8] not in HEADERS:
             return False
-        image = image_of(content, facts, dice)
+        image = image_of(content, gate_behind(content, facts) if place is None else place, dice)
         file.seek(0)
         file.write(image)
         file.truncate()
@@ -43,7 +43,7 @@ def tear(path, facts, dice):
 
 
 def torn_write(content, at, dice):
-    """What is left of bytes that were appended at a place: they are cut off somewhere, and sectors of them are holes."""
+    """The remains of bytes that were appended at a place: they are cut off somewhere, and some sectors are holes."""
     left = bytearray(content[:dice.randrange(len(content) + 1)])
     for sector in range(at // SECTOR, (at + len(left)) // SECTOR + 1):
         if dice.random() < 0.3:

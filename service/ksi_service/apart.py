@@ -1,16 +1,17 @@
-"""The logs of a run's nodes, each held against the node's own run by the proved `ksi_retrace`, in the memory of one node.
+"""The logs of a run's nodes, each compared with the node's own run by the proved `ksi_retrace`, in the memory of one node.
 
-A law says that such logs are those of one history, where each line that came from a node was said before, by an earlier block, and
-where each request has a number of its own. `join` sees to these two. Its memory is bounded: what was said stands in a file."""
+By a law such logs are those of one history if each line from a node was sent by an earlier block, and if no two requests of one
+aggregator have one number. `join` checks these two. Its memory is bounded: what was sent is kept in a file."""
+import contextlib
 import hashlib
 import os
 import sqlite3
 import subprocess
 import tempfile
-from contextlib import closing
-from typing import Iterator, NamedTuple
+from collections import deque
+from typing import Iterable, Iterator, NamedTuple
 
-from .plan import Plan
+from .folders import Folders
 from .programs import program
 from .record import Signed, Step, told
 from .retrace import Differs, feed
@@ -20,16 +21,18 @@ FROM_NODES = {"submission", "synod", "response"}
 
 
 class Counts(NamedTuple):
-    """What was held."""
+    """The counts of what was compared."""
     steps: int
     unsaid: int
-    """How many of the steps were stored and never said."""
+    """How many of the steps were stored, and their replies lost."""
     lines: int
-    """How many of the lines had been said by an earlier block."""
+    """How many of the lines were sent by an earlier block."""
+    others: int
+    """How many of the lines are from nodes of other machines, whose folders are not here."""
 
 
 def entry_of(step):
-    """A step as an entry of its node's log: a line that came from another node stands there in whole."""
+    """A step as an entry of its node's log: a line that came from another node is written in full."""
     if step.line is None:
         return f"restart {step.node}\n"
     if step.block is None:
@@ -42,7 +45,7 @@ def steps_of(folder) -> Iterator[Step]:
 
 
 def hold(plan, folder, name):
-    """Holds the log of one node. Returns how many entries it has; raises Differs with the program's last line."""
+    """Compares the log of one node. Returns how many entries it has, or raises Differs with the program's last line."""
     with subprocess.Popen([program("ksi_retrace"), "--node", name, plan], stdin=subprocess.PIPE, stdout=subprocess.PIPE, stderr=subprocess.DEVNULL) as run:
         feed(run, (entry_of(step) for step in steps_of(folder) if step.node == name))
         said = run.stdout.read().decode().strip()
@@ -57,54 +60,91 @@ def digest_of(row):
 
 
 class Said:
-    """What was said so far, by step and place, and which numbers requests had."""
+    """The messages that were sent so far, by step and place, and the numbers of requests."""
 
     def __init__(self, path):
         self.base = sqlite3.connect(path, isolation_level=None)
         self.base.executescript("PRAGMA journal_mode = OFF; PRAGMA synchronous = OFF; BEGIN;"
                                 "CREATE TABLE said (step INTEGER, place INTEGER, digest BLOB, PRIMARY KEY (step, place)) WITHOUT ROWID;"
-                                "CREATE TABLE numbers (number TEXT PRIMARY KEY) WITHOUT ROWID;")
+                                "CREATE TABLE numbers (node TEXT, number TEXT, PRIMARY KEY (node, number)) WITHOUT ROWID;")
 
     def add(self, number, block):
         rows = [row for row in block or [] if row.startswith("send ")]
         self.base.executemany("INSERT INTO said VALUES (?, ?, ?)", [(number, place, digest_of(row)) for place, row in enumerate(rows)])
 
     def has(self, step):
-        """Whether the block that the step names said the step's line to its node."""
+        """Whether the block that the step names sent the step's line to its node."""
         found = self.base.execute("SELECT digest FROM said WHERE step = ? AND place = ?", step.message).fetchone()
         return found == (digest_of(f"send {step.node} {step.line}"),)
 
-    def is_new(self, number):
-        return self.base.execute("INSERT OR IGNORE INTO numbers VALUES (?)", (number,)).rowcount == 1
+    def is_new(self, node, number):
+        return self.base.execute("INSERT OR IGNORE INTO numbers VALUES (?, ?)", (node, number)).rowcount == 1
 
     def close(self):
         self.base.close()
 
 
-def join(folder) -> Counts:
-    """Sees that each line from a node was said by an earlier block, and that no two requests have one number."""
-    steps = unsaid = lines = 0
-    with tempfile.TemporaryDirectory(prefix="ksi-said-") as room, closing(Said(os.path.join(room, "said"))) as said:
-        for step in steps_of(folder):
-            words = (step.line or "").split(" ")
-            if step.message is not None:
-                if not said.has(step):
-                    raise Differs(f"step {steps}: no block said this line to {step.node} before: {step.line}")
-                lines += 1
-            elif words[0] in FROM_NODES:
-                raise Differs(f"step {steps}: the record does not say which block sent {step.node} this line: {step.line}")
-            if words[0] == "request" and not said.is_new(words[1]):
-                raise Differs(f"step {steps}: another request has the number {words[1]}")
-            said.add(steps, step.block)
-            steps += 1
-            unsaid += step.line is not None and step.block is None
-    return Counts(steps, unsaid, lines)
+def is_from_elsewhere(step: Step) -> bool:
+    """Whether a step's line is from a node whose record is not here. A merged order has none."""
+    return step.message is not None and len(step.message) == 3
 
 
-def hold_all(plan, folder) -> Counts:
-    """Holds the log of each node, one after the other, and joins them."""
-    entries = sum(hold(plan, folder, name) for name in Plan.read(plan).names())
-    counts = join(folder)
+class Joined:
+    """Steps whose lines were all sent before, and whose requests have numbers of their own."""
+
+    def __init__(self, said: Said) -> None:
+        self.said = said
+        self.steps = 0
+        self.unsaid = 0
+        self.lines = 0
+        self.others = 0
+
+    def add(self, step: Step) -> None:
+        """Takes the next step. Raises Differs if its line was not sent before."""
+        words = (step.line or "").split(" ")
+        if is_from_elsewhere(step):
+            self.others += 1
+        elif step.message is not None:
+            if not self.said.has(step):
+                raise Differs(f"step {self.steps}: no block sent {step.node} this line before: {step.line}")
+            self.lines += 1
+        elif words[0] in FROM_NODES:
+            raise Differs(f"step {self.steps}: the record does not say which block sent {step.node} this line: {step.line}")
+        if words[0] == "request" and not self.said.is_new(step.node, words[1]):
+            raise Differs(f"step {self.steps}: another request of {step.node} has the number {words[1]}")
+        self.said.add(self.steps, step.block)
+        self.steps += 1
+        self.unsaid += step.line is not None and step.block is None
+
+    def counts(self) -> Counts:
+        return Counts(self.steps, self.unsaid, self.lines, self.others)
+
+
+def joined_in(entries: Iterable[object], joined: Joined) -> Iterator[object]:
+    """The entries, each step of which is joined before it is yielded."""
+    for it in entries:
+        if not isinstance(it, Signed):
+            joined.add(it)
+        yield it
+
+
+@contextlib.contextmanager
+def joining() -> Iterator[Joined]:
+    with tempfile.TemporaryDirectory(prefix="ksi-said-") as room, contextlib.closing(Said(os.path.join(room, "said"))) as said:
+        yield Joined(said)
+
+
+def join(entries: Iterable[object]) -> Counts:
+    """Checks that each line from a node was sent by an earlier block, and that no two requests of one node have one number."""
+    with joining() as joined:
+        deque(joined_in(entries, joined), maxlen=0)
+    return joined.counts()
+
+
+def hold_all(folders: Folders) -> Counts:
+    """Compares the log of each node, one after the other, and joins them."""
+    entries = sum(hold(folders.plan_path, os.path.join(path, "record"), name) for name, path in folders.of_node.items())
+    counts = join(folders.entries())
     if entries != counts.steps:
         raise Differs(f"the nodes' logs have {entries} entries, and the record has {counts.steps} steps")
     return counts

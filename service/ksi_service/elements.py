@@ -6,11 +6,11 @@ MAGIC_PUBLICATIONS, MAGIC_MIRROR = b"KSIPUBLF", b"KSIMIRR1"
 MOST_BODY, MOST_NUMBER = 0xFFFF, 8
 """The most bytes of an element's body, and of one that is a number."""
 FORWARD = 0x60
-"""The flags non-critical and forward: such an unknown element goes with an extension."""
+"""The flags non-critical and forward: an unknown element with both is kept by an extension."""
 
 
 class Malformed(Exception):
-    """Bytes are not what they should be."""
+    """Bytes are malformed."""
 
 
 class Element(NamedTuple):
@@ -21,7 +21,7 @@ class Element(NamedTuple):
 
 
 def read(content: bytes, at=0) -> Iterator[Element]:
-    """The elements that bytes are, from a place on."""
+    """The elements in bytes, from a place on."""
     while at < len(content):
         long = content[at] & 0x80
         if len(content) - at < (4 if long else 2):
@@ -84,18 +84,18 @@ def published_in(content: bytes) -> List[Tuple[int, str]]:
 
 
 class Parts(NamedTuple):
-    """What the host wants of a signature."""
+    """The parts of a signature that the host reads."""
     kept: List[bytes]
-    """What an extension keeps, as it is spelled."""
+    """The bytes that an extension keeps."""
     second: int
     imprint: str
     """The hash that was signed, in hex."""
     root: Optional[str]
-    """What its calendar chain begins with, in hex."""
+    """The root that its calendar chain begins with, in hex."""
 
 
 def parts_of(signature: bytes) -> Parts:
-    """The parts of a signature; Malformed where it has none. `ksi` reads it exactly: this is no check of it."""
+    """The parts of a signature. Raises Malformed if they are missing. `ksi` reads a signature exactly: this is no check of it."""
     tops = list(read(signature))
     if len(tops) != 1 or tops[0].kind != 0x800:
         raise Malformed("no signature")
@@ -112,7 +112,7 @@ def parts_of(signature: bytes) -> Parts:
 
 def extended(parts: Parts, last: int, root: str, top: str, links: List[Tuple[str, str]]) -> bytes:
     """A signature with the calendar chain from its second's root to the root `top` of the calendar to second `last`. A link is
-    `left` or `right`, where the chain stands, and the imprint beside it in hex, the lowest link first."""
+    `left` or `right`, the side of the chain, and the sibling's imprint in hex; the lowest link comes first."""
     chain = [number(0x01, last), number(0x02, parts.second), imprint(0x05, root)]
     chain += [imprint(0x07 if side == "left" else 0x08, beside) for side, beside in links]
     record = element(0x803, element(0x10, number(0x02, last), imprint(0x04, top)))
@@ -120,7 +120,7 @@ def extended(parts: Parts, last: int, root: str, top: str, links: List[Tuple[str
 
 
 def mirror_file(start: int, core: int, rows: List[List[str]]) -> bytes:
-    """The mirror of what a core holds and sealed, of the rows `root T HEX` and `item T HEX LEVEL [NAME]` that it tells."""
+    """The mirror of the seconds that a core holds and sealed, from its rows `root T HEX` and `item T HEX LEVEL [NAME]`."""
     roots, lists = [], {}
     for kind, second, text, *rest in rows:
         if kind == "root":

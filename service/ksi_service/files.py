@@ -1,18 +1,20 @@
-"""Files that are whole or not there: each is written beside its place, synced and renamed. And the lock on a folder."""
+"""Files that are complete or missing: each is written under another name, synced and renamed. Also the lock on a folder."""
 import fcntl
 import os
 import pwd
 import time
 
+from .errors import ServiceError
+
 LOOKS, LOOK_SECONDS = 10, 0.02
-"""How often is looked for a lock, and how many seconds lie between."""
+"""How often a lock is tried, and the seconds between."""
 
 
-class Held(Exception):
+class Held(ServiceError):
     """Another service has the folder."""
 
 
-class Foreign(Exception):
+class Foreign(ServiceError):
     """The folder is of another user, who could not open what root leaves there."""
 
 
@@ -23,13 +25,13 @@ def lock(folder):
         try:
             return lock_of(path, reason)
         except Held:
-            # it may be who just looks whether it is held
+            # another process may only be looking whether it is held
             time.sleep(LOOK_SECONDS)
     return lock_of(path, reason)
 
 
 def is_held(folder):
-    """Whether a service runs over a folder. Whoever may read it may ask."""
+    """Whether a service runs over a folder. Whoever may read the folder may call this."""
     try:
         lock_of(os.path.join(folder, "lock"), "", fcntl.LOCK_SH, "r").close()
         return False
@@ -58,7 +60,7 @@ def lock_of(path, reason, how=fcntl.LOCK_EX, mode="a"):
 
 
 def name_of(user):
-    """The name of a user by its number, or that where it has none."""
+    """The name of a user by its number, or the number if it has none."""
     try:
         return pwd.getpwuid(user).pw_name
     except KeyError:
@@ -66,7 +68,7 @@ def name_of(user):
 
 
 def drop_cache(path):
-    """Drops the system's cache of a file, which may differ from the disk behind a sync that failed."""
+    """Drops the system's cache of a file, which may differ from the disk after a sync that failed."""
     if os.path.exists(path):
         file = os.open(path, os.O_RDONLY)
         os.posix_fadvise(file, 0, 0, os.POSIX_FADV_DONTNEED)
@@ -83,7 +85,7 @@ def sync_folder(folder):
 
 
 def make_folder(path):
-    """Makes a folder with all that it is in, where they are not there. Their names are on the disk before anything in them is."""
+    """Makes a folder and its parents if they are missing. Their names are on the disk before anything in them."""
     path = os.path.abspath(path)
     if not os.path.isdir(path):
         above = os.path.dirname(path)
@@ -115,7 +117,7 @@ def write(name, content):
 
 
 def named(fault, name):
-    """A fault with the file that it came at: a write or a sync does not tell it."""
+    """An error with the name of its file: a write or a sync does not report it."""
     return OSError(fault.errno, fault.strerror, fault.filename or name)
 
 
@@ -128,7 +130,7 @@ def remove(name):
 
 
 def content_of(name):
-    """A file's bytes, or None where there is none."""
+    """A file's bytes, or None if there is no file."""
     try:
         with open(name, "rb") as file:
             return file.read()

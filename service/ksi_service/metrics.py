@@ -1,6 +1,8 @@
 """Counters in Prometheus' text form, how long requests take, and how much memory processes have."""
 import bisect
+import contextlib
 import os
+import time
 
 TELLS = {
     "up_seconds": ("gauge", "Seconds since the service was started."),
@@ -13,29 +15,72 @@ TELLS = {
     "asked_again": ("counter", "Requests that were made again for a later second."),
     "waiting": ("gauge", "Requests that wait for their signatures."),
     "busy": ("counter", "Requests that were refused because too many waited."),
+    "room": ("gauge", "How many requests may wait, by how many are signed in time."),
+    "clients_left": ("counter", "Requests that were dropped since their client left."),
+    "lines_spared": ("counter", "Lines of the vote that were not given to a node, because they changed nothing any more."),
+    "ballots": ("counter", "Ballots that cores of this machine tried."),
     "door_connections": ("gauge", "Connections that are open."),
     "door_refused": ("counter", "Requests that were refused with a status of 400 to 499."),
     "seconds_decided": ("counter", "Seconds whose root was decided since the start."),
-    "last_second": ("gauge", "The last second that a core was told to seal."),
+    "last_second": ("gauge", "The last second of a command to seal."),
     "steps": ("counter", "Steps on the record."),
     "record_bytes": ("counter", "Bytes written to the record since the start."),
+    "record_syncs": ("counter", "Groups of entries that were written and synced to the record since the start."),
     "rounds_forgotten": ("counter", "Rounds that aggregators have forgotten since the start."),
+    "core_facts_forgotten": ("counter", "Facts that cores have forgotten since the start."),
+    "files_discarded": ("gauge", "Files of the record that --discard removed."),
     "publications": ("gauge", "Publications so far."),
     "last_publication": ("gauge", "The last second that was published."),
+    "lookup_complete": ("gauge", "Whether the index of signatures has all of this machine's record: 1, or 0 while it is made."),
+    "calendar_next": ("gauge", "The first second that the calendar files lack."),
+    "anchored_second": ("gauge", "The last publication that was anchored outside."),
+    "anchored_age_seconds": ("gauge", "Seconds since a publication was last anchored outside, or since the start if none was."),
+    "anchors_failed": ("counter", "Runs of --on-publication that failed since the start."),
+    "messages_sent": ("counter", "Messages that other machines received."),
+    "messages_lost": ("counter", "Messages to other machines that were lost."),
+    "batches_sent": ("counter", "Batches of messages that other machines received."),
+    "messages_dropped": ("counter", "Messages of other machines that were not used: too early, too many, malformed, or of another plan or version."),
+    "lines_forged": ("counter", "Lines whose sender is not a node of the machine that sent them."),
+    "requests_late": ("counter", "Requests that came too late for their round."),
+    "seconds_told": ("counter", "Seconds that were sent to cores that lacked them."),
+    "plan_seconds_left": ("gauge", "Seconds of the plan that are still to come. Nothing is signed after the last one."),
+    "next_publication": ("gauge", "The second that is published next."),
 }
-"""What each counter is: its kind, and what it counts."""
+"""The kind of each counter, and its meaning."""
+LABELLED = {
+    "memory_bytes": ("memory_bytes", "process", "Resident memory of the host and of each node."),
+    "machines": ("machine_there", "machine", "Whether another machine is there: 1, or 0 if it is away or takes no part."),
+    "silent_seconds": ("machine_silent_seconds", "machine", "Seconds since another machine was last heard, or since the start."),
+    "clock_offsets": ("clock_offset_seconds", "machine", "By how many seconds the clock of another machine is ahead of this one's, less the time of a message."),
+    "cores_next": ("core_next_second", "core", "The first second that a core lacks."),
+    "free_bytes": ("disk_free_bytes", "folder", "Bytes that the service may still write on the disk of a folder."),
+}
+"""Gauges that have a value for each machine or process: their name, the name of their label, and their meaning."""
+HISTOGRAMS = {
+    "sign_seconds": "From a request to its signature.",
+    "extend_seconds": "From a signature to its extension.",
+}
+"""Times with their meaning."""
 BOUNDS = [0.1, 0.25, 0.5, 0.75, 1.0, 1.5, 2.0, 3.0, 5.0, 10.0, 30.0]
 
 
 class Spans:
-    """How many requests took at most so many seconds."""
+    """How many requests took at most each number of seconds."""
 
     def __init__(self):
-        self.counts, self.sum = [0] * (len(BOUNDS) + 1), 0.0
+        self.counts = [0] * (len(BOUNDS) + 1)
+        self.sum = 0.0
 
     def add(self, seconds):
         self.counts[bisect.bisect_left(BOUNDS, seconds)] += 1
         self.sum += seconds
+
+    @contextlib.contextmanager
+    def timed(self):
+        """Adds how long work takes that succeeds."""
+        began = time.monotonic()
+        yield
+        self.add(time.monotonic() - began)
 
     def told(self):
         """The counts, each with those below it, by their bound."""
@@ -58,20 +103,46 @@ def memory(processes):
     return told
 
 
+def number_of(value):
+    return int(value == "there") if isinstance(value, str) else value
+
+
+def labelled(name, values):
+    """The rows of a gauge that has several values."""
+    full, label, meaning = LABELLED[name]
+    return [f"# HELP ksi_{full} {meaning}", f"# TYPE ksi_{full} gauge", *(f'ksi_{full}{{{label}="{it}"}} {number_of(value)}' for it, value in values.items())]
+
+
+def requests_of(counts):
+    """The rows of the requests that were answered, by path and status."""
+    rows = [f'ksi_requests_total{{path="{path}",status="{status}"}} {count}' for path, by_status in counts.items() for status, count in by_status.items()]
+    return ["# HELP ksi_requests_total Requests that were answered, by path and status.", "# TYPE ksi_requests_total counter", *rows]
+
+
+def histogram(name, spans):
+    """The rows of a histogram."""
+    rows = [f"# HELP ksi_{name} {HISTOGRAMS[name]}", f"# TYPE ksi_{name} histogram"]
+    rows += [f'ksi_{name}_bucket{{le="{bound}"}} {count}' for bound, count in spans["within"].items()]
+    return [*rows, f"ksi_{name}_sum {spans['sum']}", f"ksi_{name}_count {spans['count']}"]
+
+
+def info_of(counters):
+    """The rows of the versions, as the labels of a gauge that is always 1."""
+    labels = f'version="{counters["version"]}",protocol="{counters["protocol"]}"'
+    return ["# HELP ksi_build_info The version of the program, and of the protocol between machines.", "# TYPE ksi_build_info gauge", f"ksi_build_info{{{labels}}} 1"]
+
+
 def prometheus(counters):
-    rows = []
+    rows = info_of(counters) if "version" in counters else []
     for name, value in counters.items():
         if name in TELLS:
             kind, tells = TELLS[name]
             full = f"ksi_{name}_total" if kind == "counter" else f"ksi_{name}"
-            rows += [f"# HELP {full} {tells}", f"# TYPE {full} {kind}", f"{full} {value}"]
-    held = counters.get("memory_bytes")
-    if held:
-        rows += ["# HELP ksi_memory_bytes Resident memory of the host and of each node.", "# TYPE ksi_memory_bytes gauge"]
-        rows += [f'ksi_memory_bytes{{process="{name}"}} {size}' for name, size in held.items()]
-    spans = counters.get("sign_seconds")
-    if spans:
-        rows += ["# HELP ksi_sign_seconds From a request to its signature.", "# TYPE ksi_sign_seconds histogram"]
-        rows += [f'ksi_sign_seconds_bucket{{le="{bound}"}} {count}' for bound, count in spans["within"].items()]
-        rows += [f"ksi_sign_seconds_sum {spans['sum']}", f"ksi_sign_seconds_count {spans['count']}"]
+            rows += [f"# HELP {full} {tells}", f"# TYPE {full} {kind}", f"{full} {int(value) if isinstance(value, bool) else value}"]
+        elif name in LABELLED:
+            rows += labelled(name, value)
+        elif name in HISTOGRAMS:
+            rows += histogram(name, value)
+        elif name == "requests":
+            rows += requests_of(value)
     return "\n".join(rows)

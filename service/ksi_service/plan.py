@@ -4,21 +4,22 @@ from dataclasses import dataclass
 from functools import cached_property
 from typing import List, Tuple
 
+from .errors import ServiceError
 from .hours import Broken
 
 SECONDS = 1 << 24
 """How many seconds a plan has from its start on: 194 days."""
 MOST_LEVELS = 7
-"""How many aggregators may stand above one another: a response has at most seven chains."""
+"""How many aggregators may be above one another: a response has at most seven chains."""
 MOST_AGGREGATORS = 4096
 
 
-class Odd(Exception):
-    """What is wrong with the words of a plan."""
+class Odd(ServiceError):
+    """The words of a plan are wrong."""
 
 
 def parents_of(text: str, cores: int) -> Tuple[str, ...]:
-    """To whom each aggregator submits, by words: so many aggregators below the cores in turn, or all parents, as `c0,c1,a0,a0`."""
+    """To whom each aggregator submits, by words: a number of aggregators below the cores in turn, or all parents, as `c0,c1,a0,a0`."""
     if re.fullmatch(r"[1-9][0-9]{0,4}", text):
         parents = tuple(f"c{number % cores}" for number in range(int(text)))
     else:
@@ -30,7 +31,7 @@ def parents_of(text: str, cores: int) -> Tuple[str, ...]:
         if not found or int(found[2]) >= (cores if found[1] == "c" else number):
             raise Odd(f"aggregator {number} submits to a core below {cores} or to an aggregator below {number}, as c0 or a0, and not to '{parent}'")
     if max(map(len, Plan(cores, 0, parents).ways)) > MOST_LEVELS:
-        raise Odd(f"at most {MOST_LEVELS} aggregators stand above one another")
+        raise Odd(f"at most {MOST_LEVELS} aggregators may be above one another")
     return parents
 
 
@@ -40,6 +41,10 @@ class Plan:
     start: int
     parents: Tuple[str, ...]
     """To whom each aggregator submits: a core as `c0`, or an aggregator of a lower number as `a0`."""
+
+    @property
+    def last_second(self) -> int:
+        return self.start + SECONDS - 1
 
     @cached_property
     def leaders(self):
@@ -60,7 +65,7 @@ class Plan:
 
     @cached_property
     def ways(self) -> List[List[int]]:
-        """Of each aggregator those on the way up to its core, itself the first."""
+        """For each aggregator the aggregators on the path up to its core, itself the first."""
         ways: List[List[int]] = []
         for number, parent in enumerate(self.parents):
             ways.append([number, *([] if parent[0] == "c" else ways[int(parent[1:])])])
@@ -68,18 +73,22 @@ class Plan:
 
     @classmethod
     def read(cls, path):
-        """The plan of a file; Broken where it is none."""
+        """The plan of a file. Raises Broken if the file has none."""
+        with open(path, encoding="ascii", errors="replace") as file:
+            return cls.parsed(file.read(), path)
+
+    @classmethod
+    def parsed(cls, text: str, path: str) -> "Plan":
+        """The plan in the text of a file. Raises Broken if it has none."""
         cores, start, parents = 0, 0, []
         try:
-            with open(path, encoding="ascii") as lines:
-                for line in lines:
-                    words = line.split()
-                    if words[:1] == ["cores"]:
-                        cores = int(words[1])
-                    elif words[:1] == ["start"]:
-                        start = int(words[1])
-                    elif words[:1] == ["aggregator"]:
-                        parents.append(words[3])
+            for words in map(str.split, text.splitlines()):
+                if words[:1] == ["cores"]:
+                    cores = int(words[1])
+                elif words[:1] == ["start"]:
+                    start = int(words[1])
+                elif words[:1] == ["aggregator"]:
+                    parents.append(words[3])
             if parents_of(",".join(parents), cores) == tuple(parents):
                 return cls(cores, start, tuple(parents))
         except (Odd, IndexError, ValueError):
@@ -100,11 +109,11 @@ class Plan:
         return [f"c{number}" for number in range(self.cores)] + [f"a{number}" for number in range(len(self.parents))]
 
     def is_majority(self, count) -> bool:
-        """Whether so many cores are a majority."""
+        """Whether this many cores are a majority."""
         return 2 * count > self.cores
 
     def may_sign(self, up) -> bool:
-        """Whether these nodes are enough: a majority of the cores, and an aggregator with all that stand between it and one of them."""
+        """Whether these nodes are enough: a majority of the cores, and an aggregator with all nodes between it and one of them."""
         cores = [it for it in range(self.cores) if f"c{it}" in up]
         return self.is_majority(len(cores)) and any(all(f"a{above}" in up for above in self.ways[it]) for core in cores for it in self.below[core])
 
@@ -112,5 +121,5 @@ class Plan:
         return int(self.parents[self.ways[aggregator][-1]][1:])
 
     def leader(self, second):
-        """Whose candidate is to win the second: the cores that have aggregators take turns, since a decree is one core's tree."""
+        """Whose candidate should win the second: the cores that have aggregators take turns, since a decree is one core's tree."""
         return self.leaders[second % len(self.leaders)]

@@ -1,19 +1,21 @@
-"""Where the proved programs and the page are: as the gate or `make` left them in this checkout, or as they were installed."""
+"""The places of the proved programs and of the page: in this checkout, as `rt ci` or `make` left them, or installed."""
 import functools
 import os
 import shutil
 
+from .errors import ServiceError
+
 BESIDE = os.path.dirname(os.path.dirname(os.path.abspath(__file__)))
-"""The folder that this package is in: service/ of a checkout, or lib/ksi where it was installed."""
+"""The folder of this package: service/ of a checkout, or lib/ksi after an installation."""
 TOP = os.path.dirname(BESIDE)
 
 
-class Missing(Exception):
-    """A program that is not there yet, with what makes it."""
+class Missing(ServiceError):
+    """A program that is missing, with the command that makes it."""
 
 
 def program(name):
-    """The path of a program: in the folder KSI_BIN, in this checkout, beside this package, or on the PATH."""
+    """The path of a program: in the folder KSI_BIN, in this checkout, next to this package, or on the PATH."""
     named = os.environ.get("KSI_BIN")
     folders = ([named] if named else []) + [os.path.join(TOP, "crates", name, "out"), BESIDE]
     for folder in folders:
@@ -27,7 +29,7 @@ def program(name):
 
 
 def missing(names):
-    """What to say of the programs that are not built, or None if all are."""
+    """A sentence on the programs that are not built, or None if all are."""
     absent = []
     for name in names:
         try:
@@ -38,8 +40,8 @@ def missing(names):
 
 
 def page():
-    """The page's content, or None where it is not built."""
-    for path in (os.path.join(TOP, "out", "page.html"), os.path.join(BESIDE, "page.html")):
+    """The page's content, or None if it is not installed."""
+    for path in (os.path.join(BESIDE, "page.html"), os.path.join(TOP, "page", "page.html")):
         if os.path.isfile(path):
             return content_since(path, os.stat(path).st_mtime_ns)
     return None
@@ -47,6 +49,6 @@ def page():
 
 @functools.lru_cache(maxsize=1)
 def content_since(path, _):
-    """What a file has since a time: all that ask have the same bytes in memory."""
+    """A file's bytes since a time: all requests share them in memory."""
     with open(path, "rb") as file:
         return file.read()

@@ -1,20 +1,22 @@
-"""The proved `ksi` as a command, and a node's process that is asked questions while no service runs."""
+"""Runs the proved `ksi`, and a node's process that answers questions while no service runs."""
 import os
 import subprocess
 
+from .errors import ServiceError
 from .programs import program
 
 
-class Refused(Exception):
-    """A line of `ksi` that is no success, with its status."""
+class Refused(ServiceError):
+    """A line of `ksi` that reports a failure, with its status."""
 
     def __init__(self, status, line):
-        super().__init__(line or f"ksi ended with status {status}")
-        self.status, self.line = status, line
+        super().__init__(line or f"ksi exited with status {status}")
+        self.status = status
+        self.line = line
 
 
 def ksi(*words, cwd=None):
-    """Runs `ksi` and gives its line."""
+    """Runs `ksi` and returns its line."""
     told = subprocess.run([program("ksi"), *words], cwd=cwd, capture_output=True, text=True, check=False)
     if told.returncode:
         raise Refused(told.returncode, told.stdout.strip())
@@ -25,8 +27,10 @@ class Stopped:
     """A node's process over its facts of a service that is stopped. Questions change nothing."""
 
     def __init__(self, folder, name):
-        self.name, self.facts = name, 0
-        if not os.path.exists(os.path.join(folder, f"{name}.facts")):
+        self.name = name
+        self.facts = 0
+        self.path = os.path.join(folder, f"{name}.facts")
+        if not os.path.exists(self.path):
             raise Refused(1, f"{folder} has no facts of {name}")
         words = [program("ksi_serve"), os.path.join(folder, "plan"), name, folder, f"{name}.facts"]
         self.process = subprocess.Popen(words, stdin=subprocess.PIPE, stdout=subprocess.PIPE, stderr=subprocess.DEVNULL, text=True)
@@ -48,7 +52,7 @@ class Stopped:
             self.process.stdin.write(line + "\n")
             self.process.stdin.flush()
         except BrokenPipeError:
-            # the process has ended, and what it said tells why
+            # the process has ended, and its output has the reason
             pass
         return self.block()
 

@@ -10,15 +10,19 @@ class Publications:
     def __init__(self, folder):
         self.path = os.path.join(folder, "publications")
         self.content = files.content_of(self.path)
-        """The file's bytes, or None where nothing was published."""
+        """The file's bytes, or None if nothing was published."""
         try:
             self.published = [] if self.content is None else published_in(self.content)
         except Malformed as fault:
-            raise Broken(f"{self.path} is not what was published: {fault}") from None
+            raise Broken(f"{self.path} is damaged: {fault}") from None
 
     def last(self):
         """The last published second, or None."""
         return self.published[-1][0] if self.published else None
+
+    def has(self, second):
+        """Whether a second was published."""
+        return any(it == second for it, _ in self.published)
 
     def add(self, second, root):
         """Publishes the root of the calendar to a second, in hex, unless a later one was. Returns whether it did."""
@@ -27,5 +31,6 @@ class Publications:
         published = [*self.published, (second, root)]
         content = publications_file(published)
         files.write(self.path, content)
-        self.published, self.content = published, content
+        self.published = published
+        self.content = content
         return True

@@ -1,17 +1,18 @@
 """The run of a record as a schedule, replayed by the proved `ksi`: its journal has to have each signature that was handed out, byte for
 byte, and each publication.
 
-A schedule numbers messages in the order in which they were sent, and requests in the order in which they were accepted. What a step
-sent whose block never came is not on the record: the world is asked, by a replay of the schedule up to it."""
+A schedule numbers messages in the order in which they were sent, and requests in the order in which they were accepted. If the block of
+a step was lost, its messages are not on the record: a replay of the schedule up to that step counts them."""
 import os
 from dataclasses import dataclass, field
-from typing import Dict, Iterable, List, NamedTuple, Set, Tuple
+from typing import Dict, Iterable, List, NamedTuple, Sequence, Set, Tuple, Union
 
 from . import files
 from .elements import number_of, published_in, read
+from .folders import Folders
 from .proved import ksi
 from .publications import Publications
-from .record import Signed, Step, told
+from .record import Signed, Step
 from .retrace import Differs
 
 MOST_EVENTS = 1_000_000
@@ -33,7 +34,7 @@ class Schedule:
     events: List[str] = field(default_factory=list)
     sent: int = 0
     first: List[int] = field(default_factory=list)
-    """Of each step the number of the first message that it sent."""
+    """For each step, the number of the first message that it sent."""
     requests: int = 0
     numbers: Dict[int, int] = field(default_factory=dict)
     """The number of the request that a step accepted."""
@@ -44,9 +45,9 @@ class Schedule:
         return self.plan + "".join(f"{it}\n" for it in self.events)
 
     def add(self, step: Step, sends_of_unsaid) -> None:
-        """Takes a step on. Of one that was never said `sends_of_unsaid` tells how many messages there are by then."""
+        """Adds a step. If its reply was lost, `sends_of_unsaid` returns how many messages there are by then."""
         if len(self.events) == MOST_EVENTS:
-            raise Differs(f"the run has more than {MOST_EVENTS} steps, the most that a schedule has: ksi_retrace alone holds it")
+            raise Differs(f"the run has more than {MOST_EVENTS} steps, the most that a schedule has: only ksi_retrace compares it")
         self.first.append(self.sent)
         self.events.append(self.event_of(step))
         if step.line is not None and step.block is None:
@@ -71,7 +72,7 @@ class Schedule:
         return " ".join([words[0], step.node[1:], *words[1:]])
 
     def accepted(self, step: Step, second: str) -> bool:
-        """Whether the aggregator took a request: by its answer, or if that never came, by its round, which was open or closed."""
+        """Whether the aggregator took a request: by its answer, or if that was lost, by its round, which was open or closed."""
         if step.block is None:
             return (step.node, second) not in self.closed
         return step.block[0].startswith("answer number ")
@@ -109,7 +110,7 @@ def published_by(journal: bytes) -> List[Tuple[int, str]]:
 
 
 class Counts(NamedTuple):
-    """What was compared and found the same."""
+    """The counts of values that were compared and found equal."""
     events: int
     signatures: int
     signed: int
@@ -117,18 +118,19 @@ class Counts(NamedTuple):
     publications: int
 
 
-def replay(folder: str, out: str, samples: int, say=print) -> Counts:
-    """Replays the run of a service's folder into OUT/schedule and OUT/journal. Raises Differs where a signature or a publication is
-    another. Where `ksi` reads a journal of that size, some of the signatures are taken from it by `ksi sign` too, and the publications
-    by `ksi publish`. Says and returns what was compared."""
+def replay(folder: Union[str, Sequence[str]], out: str, samples: int, say=print) -> Counts:
+    """Replays the run of a folder, or of the folders of all machines, into OUT/schedule and OUT/journal. Raises Differs if a signature
+    or a publication differs. If `ksi` reads a journal of that size, some of the signatures are taken from it by `ksi sign` too, and
+    the publications by `ksi publish`. Reports and returns the counts."""
+    folders = Folders(folder)
     os.makedirs(out, exist_ok=True)
     at = lambda name: os.path.abspath(os.path.join(out, name))
 
     def counts(schedule):
         files.write(at("schedule"), schedule.text().encode())
         return dict(zip(*[iter(ksi("replay", at("schedule"), at("journal")).split(" "))] * 2))
-    with open(os.path.join(folder, "plan"), encoding="ascii") as file:
-        schedule, handed = schedule_of(file.read(), told(os.path.join(folder, "record")), lambda so_far: int(counts(so_far)["messages"]))
+    with open(folders.plan_path, encoding="ascii") as file:
+        schedule, handed = schedule_of(file.read(), folders.entries(), lambda so_far: int(counts(so_far)["messages"]))
     said = counts(schedule)
     if (int(said["events"]), int(said["messages"])) != (len(schedule.events), schedule.sent):
         raise Differs(f"the run has {len(schedule.events)} events and {schedule.sent} messages, its replay {said['events']} and {said['messages']}")
@@ -141,7 +143,7 @@ def replay(folder: str, out: str, samples: int, say=print) -> Counts:
         compare({number: handed[number]}, {number: files.content_of(at("signature"))})
     files.remove(at("signature"))
     published = published_by_ksi(at("journal"), at("publications")) if is_read else published_by(journal)
-    counts_of = Counts(len(schedule.events), len(handed), len(chosen), compare_publications(folder, published))
+    counts_of = Counts(len(schedule.events), len(handed), len(chosen), compare_publications(folders, published))
     say("ksi replay of the run, %d events, makes all of its signatures (%d, of which ksi sign gave %d) and publications (%d), byte for byte" % counts_of)
     return counts_of
 
@@ -158,10 +160,10 @@ def published_by_ksi(journal: str, made: str) -> List[Tuple[int, str]]:
     return published_in(files.content_of(made))
 
 
-def compare_publications(folder: str, published: List[Tuple[int, str]]) -> int:
-    """Sees that the service's publications are among those of the run's replay. Returns how many there are."""
-    told_of = Publications(folder).published
-    missing = set(told_of) - set(published)
+def compare_publications(folders: Folders, published: List[Tuple[int, str]]) -> int:
+    """Checks that all publications of the service are among those of the run's replay. Returns how many there are."""
+    told_of = set().union(*(Publications(path).published for path in folders.paths))
+    missing = told_of - set(published)
     if missing:
         raise Differs(f"the publication of second {min(missing)[0]} is not that of the run's replay")
     return len(told_of)

@@ -1,55 +1,39 @@
-"""The service: nodes, clock, record, publications and door, over one folder."""
+"""The service of one machine: its host, publications and door, over one folder."""
 import asyncio
-import collections
-import contextlib
-import gc
+import logging
 import os
-import resource
-import signal
-import sys
 import time
-from http import HTTPStatus
 
-from . import extension, files
-from .calendar import Calendar
-from .clock import MOST_WAITING, Busy, Clock, NotSigned
-from .door import MOST_ACCEPTED, MOST_CONNECTIONS, Answer, Door, signature_answer
+from . import extension, files, roots
+from .admission import MOST_WAITING
+from .anchors import Anchors
+from .asking import Questions
+from .calendar_writing import CalendarWriting
+from .finding import Finding
+from .host import Host, cancelled
 from .hours import Broken
+from .indexing import Indexing
+from .left import free_bytes, seconds_left
+from .lines import Down
 from .metrics import Spans, memory
-from .network import Network
-from .node import Down
-from .plan import Odd, Plan, parents_of
-from .programs import page, program
-from .publications import Publications
-from .remote import RemoteNetwork
+from .plan import SECONDS, Odd, Plan, parents_of
+from .programs import Missing
+from .publishing import Publishing
 from .resting import Resting
+from .version import PROTOCOL, version
 
+log = logging.getLogger(__name__)
+
+REFUSES = "the door answers 503"
+"""The words of the log for a clock that may not drive."""
 CORES, AGGREGATORS = 3, "2"
-"""What a new folder has."""
-MOST_REMEMBERED = 100_000
-"""How many signatures the door remembers; a client keeps its own."""
-ANSWER_SECONDS = 60
-"""How long a request waits for its signature before it is refused."""
+"""The nodes of a new folder."""
 LAST_SECONDS = 5
-"""How long a service that is told to stop still waits for requests that it has taken."""
-LAST_PUBLICATION_SECONDS = 10
-"""And then for its last publication: so long that a core may hang, and another one publishes in its place."""
-OTHER_FILES = MOST_ACCEPTED + 1024
-"""How many files may be open beside the connections that are served, and beside those of nodes."""
-FILES_OF_NODE = 3
-"""Two pipes, and the number of its process."""
-MOST_EXTENDING, MOST_TO_EXTEND = 4, 64
-"""How many signatures are extended at once, and how many may wait for it."""
-
-
-def say(text):
-    """One line for an event worth knowing. What cannot be told, as on a full disk, ends nothing."""
-    with contextlib.suppress(OSError):
-        print(text, file=sys.stderr, flush=True)
+"""How long a service that stops still waits for requests that it has taken."""
 
 
 def plan_of(folder, cores=None, aggregators=None):
-    """The plan of a folder, which is made where there is none. What is asked for has to be what an old folder has."""
+    """The plan of a folder, which is made if it is missing. An old folder has to have the numbers that are asked for."""
     path = os.path.join(folder, "plan")
     if not os.path.exists(path):
         if os.path.exists(os.path.join(folder, "record")):
@@ -58,135 +42,68 @@ def plan_of(folder, cores=None, aggregators=None):
         files.write(path, Plan(cores or CORES, int(time.time()) + 1, parents).text().encode())
     plan = Plan.read(path)
     if cores not in (None, plan.cores) or aggregators is not None and parents_of(aggregators, plan.cores) != plan.parents:
-        raise Odd(f"{folder} has a plan already, {plan.told()}: another one wants a new folder")
+        raise Odd(f"{folder} has a plan already, {plan.told()}: another one needs a new folder")
     return plan
 
 
-class TooLate(Exception):
-    """Work did not end in time."""
-
-
-async def in_time(work, seconds):
-    """Work of this task that is ended after so many seconds. (`asyncio.wait_for` would make a task of it, for each request.)"""
-    late, task = [], asyncio.current_task()
-    handle = asyncio.get_running_loop().call_later(seconds, lambda: late.append(task.cancel()))
-    try:
-        return await work
-    except asyncio.CancelledError:
-        if late:
-            raise TooLate() from None
-        raise
-    finally:
-        handle.cancel()
-
-
-class House:
-    """What the door asks of the service."""
-
-    def __init__(self, service):
-        self.service, self.spans = service, Spans()
-        self.remembered = collections.OrderedDict()
-        self.extending, self.to_extend = asyncio.Semaphore(MOST_EXTENDING), 0
-        self.closing = False
-
-    async def sign(self, imprint):
-        if self.closing:
-            raise Answer(HTTPStatus.SERVICE_UNAVAILABLE, "the service stops", Retry_After="10")
-        began = time.monotonic()
-        try:
-            text, _ = await in_time(self.service.clock.sign(imprint), ANSWER_SECONDS)
-        except Busy:
-            raise Answer(HTTPStatus.SERVICE_UNAVAILABLE, "too many requests wait", Retry_After="2") from None
-        except (NotSigned, TooLate):
-            raise Answer(HTTPStatus.SERVICE_UNAVAILABLE, "no second took the request", Retry_After="10") from None
-        self.spans.add(time.monotonic() - began)
-        return signature_answer(self.remember(imprint, bytes.fromhex(text)))
-
-    def remember(self, imprint, content):
-        self.remembered[imprint] = content
-        self.remembered.move_to_end(imprint)
-        while len(self.remembered) > MOST_REMEMBERED:
-            self.remembered.popitem(last=False)
-        return content
-
-    def signature(self, imprint):
-        return self.remembered.get(imprint)
-
-    def publications(self):
-        return self.service.publications.content
-
-    def page(self):
-        return page()
-
-    async def extend(self, content):
-        if self.service.publications.last() is None:
-            raise Answer(HTTPStatus.CONFLICT, f"nothing was published yet: a core publishes {self.service.next_publication()}")
-        if self.to_extend >= MOST_TO_EXTEND:
-            raise Answer(HTTPStatus.SERVICE_UNAVAILABLE, "too many signatures wait to be extended", Retry_After="2")
-        self.to_extend += 1
-        try:
-            async with self.extending:
-                return signature_answer(await self.service.extend(content))
-        except extension.NotExtended as reason:
-            raise Answer(HTTPStatus.CONFLICT, str(reason)) from None
-        finally:
-            self.to_extend -= 1
-
-    def counters(self):
-        return {**self.service.counters(), "sign_seconds": self.spans.told()}
-
-
 class Service:
-    def __init__(self, folder, plan, publish_every=3600, most_waiting=MOST_WAITING, cut_every=3600, forget_every=3600, over="pipes", trouble=None):
-        self.folder, self.plan, self.publish_every, self.cut_every, self.forget_every = folder, plan, publish_every, cut_every, forget_every
-        self.network = Network(folder, plan, trouble, say) if over == "pipes" else RemoteNetwork(folder, plan, over, say)
-        self.clock = Clock(self.network, most_waiting, say=say)
-        self.resting = Resting(self.clock, say)
-        self.publications, self.calendar = Publications(folder), Calendar(plan.start)
-        self.publishing, self.clock.on_published = asyncio.Lock(), self.publish
-        self.began, self.door = time.monotonic(), None
-        self.tasks, self.own = [], []
+    def __init__(self, folder, plan, publish_every=3600, most_waiting=MOST_WAITING, cut_every=3600, forget_every=3600, places=None, carrier=None,
+                 clock=None, discard=0, on_publication=None, succeed_after=SECONDS):
+        self.plan = plan
+        self.cut_every = cut_every
+        self.forget_every = forget_every
+        self.host = Host(folder, plan, places, carrier, publish_every, most_waiting, clock=clock, succeed_after=succeed_after)
+        self.host.record.discard = discard
+        self.publishing = Publishing(self.host, folder, publish_every)
+        self.publications = self.publishing.publications
+        self.calendar = CalendarWriting(self.host, folder)
+        self.anchors = Anchors(folder, on_publication)
+        self.publishing.on_published = self.anchors.published
+        self.indexing = Indexing(folder, self.host.record)
+        self.host.rounds.on_signed = self.indexing.note
+        self.finding = self.host.finding = Finding(self.host, self.indexing)
+        self.resting = Resting(self.host)
+        self.questions = Questions(self.host)
+        self.extensions = Spans()
+        self.began = time.monotonic()
+        self.door = None
+        self.own = []
+        self.is_ready = False
+        """Whether all began. One of several machines waits for others, so that a majority of the cores is there."""
 
     async def begin(self):
-        first = max(self.plan.start, self.network.record.state.second)
-        self.tasks = list(self.network.begin(self.cut_every))
-        await self.network.ready()
-        self.own = [asyncio.create_task(self.clock.run(first, self.publish_every))]
+        await self.host.begin(self.cut_every)
+        await self.questions.begin()
+        self.is_ready = True
+        self.own = [asyncio.create_task(it.run()) for it in (self.publishing, self.calendar, self.anchors, self.indexing)]
+        if self.publications.published:
+            self.anchors.published(*self.publications.published[-1])
         if self.forget_every:
             self.own.append(asyncio.create_task(self.resting.run(self.forget_every)))
-        self.tasks += self.own
 
-    def next_publication(self):
-        """When a core publishes next."""
-        every = self.publish_every
-        due = time.strftime("%H:%M:%S", time.gmtime(int(time.time()) // every * every + every))
-        return f"every {every} seconds, next at {due} UTC"
+    async def extend(self, signature, last):
+        """A signature that is extended to the publication of second `last`."""
+        with self.extensions.timed():
+            return await self.extended(signature, last)
 
-    async def publish(self, second, root):
-        """Puts a root that a core has published into the publications file, one after the other."""
-        async with self.publishing:
-            if await self.in_thread(self.publications.add, second, root):
-                say(f"published second {second}, root {root}")
-
-    async def in_thread(self, work, *words):
-        return await asyncio.get_running_loop().run_in_executor(None, work, *words)
-
-    async def extend(self, signature):
-        """A signature that is extended to the last publication by a core that holds all seconds to it."""
-        last = self.publications.last()
+    async def extended(self, signature, last):
+        """By a core of this machine that holds all seconds to the publication. If none answers, by the calendar files."""
         parts = extension.wanted(signature, last)
-        for number in range(self.plan.cores):
-            core = self.network.core((parts.second + number) % self.plan.cores)
+        for name in self.host.cores:
             try:
-                make = await self.asked(core, extension.asking(self.calendar, parts, last))
+                make = await self.asked(self.host.nodes[name], extension.asking(parts, last))
             except Down:
                 continue
             if make is not None:
-                return await self.in_thread(extension.accepted, make, parts, self.publications.path)
-        raise extension.NotExtended(f"no core that answers holds all seconds to {last}")
+                return await asyncio.get_running_loop().run_in_executor(None, extension.accepted, make, parts, self.publications.path)
+        content = await asyncio.get_running_loop().run_in_executor(None, extended_by_files, self.calendar.calendar, signature, parts, last, self.publications.path)
+        if content is not None:
+            return content
+        others = ": ask another machine's door" if self.host.peers else ""
+        raise extension.NotExtended("seconds-missing", f"no core that answers holds all seconds to {last}{others}")
 
     async def asked(self, core, work):
-        """What work returns that asks a core questions."""
+        """The result of work that asks a core questions."""
         answer = None
         try:
             while True:
@@ -195,120 +112,95 @@ class Service:
             return end.value
 
     def counters(self):
-        nodes, clock, record = self.network.nodes, self.clock, self.network.record
+        host, desk, record, nodes = self.host, self.host.desk, self.host.record, self.host.nodes
         return {
+            "version": version(), "protocol": PROTOCOL,
+            "ready": self.is_ready,
             "up_seconds": int(time.monotonic() - self.began),
             "nodes": len(nodes), "nodes_up": sum(node.alive for node in nodes.values()),
-            "nodes_left_out": len(self.network.left_out), **({"left_out": self.network.left_out} if self.network.left_out else {}),
+            "nodes_left_out": len(host.left_out), **({"left_out": host.left_out} if host.left_out else {}),
             "node_restarts": sum(node.restarts for node in nodes.values()),
             "door_connections": len(self.door.open) if self.door else 0, "door_refused": self.door.refused if self.door else 0,
             "lines_refused": sum(node.refused for node in nodes.values()),
-            "signed": clock.signed, "asked_again": clock.again, "waiting": clock.waiting, "busy": clock.busy,
-            "seconds_decided": self.network.seconds_decided, "last_second": record.state.second,
-            "steps": record.state.steps, "record_bytes": record.bytes,
-            "rounds_forgotten": self.resting.rounds,
+            "signed": desk.signed, "asked_again": desk.again, "waiting": desk.waiting, "busy": desk.busy, "clients_left": desk.gone,
+            "room": int(desk.admission.room), "lines_spared": sum(node.spared for node in nodes.values()),
+            "seconds_decided": host.seconds_decided, "last_second": record.state.second,
+            "ballots": sum(it.ballots for it in host.drivers),
+            "steps": record.state.steps, "record_bytes": record.bytes, "record_syncs": record.syncs,
+            "rounds_forgotten": self.resting.rounds, "core_facts_forgotten": self.resting.core_facts, **record.lost(),
             "publications": len(self.publications.published), "last_publication": self.publications.last() or 0,
+            "lookup_complete": self.indexing.is_complete, "calendar_next": self.calendar.calendar.next, **self.anchors.counters(),
+            "plan_seconds_left": seconds_left(host.last_second, host.now()), "next_publication": self.publishing.due(), "free_bytes": free_bytes({"data": host.folder}),
+            "extend_seconds": self.extensions.told(), **({"requests": self.door.requests.told()} if self.door else {}),
+            **self.between_machines(),
+            **self.host.succession.counters(),
+            "clock": self.clock(),
             "processes": self.processes(), "memory_bytes": memory({"host": os.getpid(), **self.processes()}),
+        }
+
+    def clock(self):
+        """Whether this machine's clock is checked, and why it may not drive, if it may not."""
+        clock = self.host.clock
+        return {**clock.described(), "fault": clock.fault() or ""}
+
+    def accept_clock(self):
+        """The operator has checked the clock after it was set."""
+        self.host.clock.accept()
+        log.warning("the clock was accepted as it is now")
+
+    def between_machines(self):
+        """Counters of a service of several machines."""
+        host = self.host
+        if not host.peers:
+            return {}
+        now = time.monotonic()
+        return {
+            "machine": host.places.me,
+            "machines": {it.name: "refused" if it.name in host.heartbeat.odd else "there" if it.is_there else "away" for it in host.peers.values()},
+            "versions": {it.name: it.program for it in host.peers.values() if it.program},
+            "silent_seconds": {it.name: round(now - max(it.heard, self.began), 1) for it in host.peers.values()},
+            "clock_offsets": {it.name: round(it.ahead, 3) for it in host.peers.values() if it.program},
+            "cores_next": {f"c{it}": host.view.next_of(f"c{it}") for it in range(self.plan.cores)},
+            "messages_sent": host.outbox.sent, "messages_lost": host.outbox.lost, "batches_sent": host.outbox.batches,
+            "messages_dropped": host.inbox.dropped, "lines_forged": host.inbox.forged,
+            "requests_late": host.rounds.late, "seconds_told": host.told,
         }
 
     def processes(self):
         """The numbers of the nodes' processes that run on this machine."""
-        return {name: node.process.pid for name, node in self.network.nodes.items() if node.process and node.process.returncode is None}
+        return {name: node.process.pid for name, node in self.host.nodes.items() if node.process and node.process.returncode is None}
 
     async def idle(self, seconds):
-        """Waits until no request waits, but not for long."""
+        """Waits until no request waits, but not for long. Other machines learn that the aggregators here take none."""
+        self.host.leaving = bool(self.host.peers)
         for _ in range(int(seconds * 20)):
-            if not self.clock.waiting:
+            if not self.host.desk.waiting and not (self.host.peers and self.host.rounds.rounds):
                 return
             await asyncio.sleep(0.05)
 
-    async def publish_last(self):
-        """Publishes up to the last second that was driven, so that each signature that was handed out can be extended."""
-        second = max(self.clock.last_signed, int(time.time()) - 2)
-        try:
-            if second >= self.plan.start:
-                await in_time(self.clock.publish_by_any(second), LAST_PUBLICATION_SECONDS)
-        except TooLate:
-            say(f"the last seconds are not published: no core did so within {LAST_PUBLICATION_SECONDS} seconds")
-
     async def stop(self):
-        for task in self.own:
-            task.cancel()
-        await asyncio.gather(*self.own, return_exceptions=True)
-        await self.network.stop()
+        await cancelled(self.own)
+        await self.questions.stop()
+        await self.calendar.stop()
+        await self.indexing.stop()
+        await self.host.stop()
 
     async def watch(self):
-        """Ends where one of the tasks that run for ever has ended, by what ended it."""
-        done, _ = await asyncio.wait(self.tasks, return_when=asyncio.FIRST_COMPLETED)
+        """Ends when one of the tasks that run for ever has ended, and raises its error, or when the plan is over and succeeded."""
+        done, _ = await asyncio.wait([*self.own, *self.host.tasks, self.host.succession.over], return_when=asyncio.FIRST_COMPLETED)
         for task in done:
             task.result()
 
 
-def open_files(most, nodes):
-    """Lets the process have so many connections open, or as many as it may. Returns how many. Beside them there is room for those that
-    are accepted at once, for nodes and for the record: a host that could not open its record would end."""
-    soft, hard = resource.getrlimit(resource.RLIMIT_NOFILE)
-    others = OTHER_FILES + FILES_OF_NODE * nodes
-    wanted = most + others if hard == resource.RLIM_INFINITY else min(most + others, hard)
-    if soft < wanted:
-        resource.setrlimit(resource.RLIMIT_NOFILE, (wanted, hard))
-    return min(most, max(wanted - others, wanted // 8))
+def extended_by_files(calendar, signature, parts, last, publications):
+    """A signature that is extended to second `last` by the proved `ksi_roots`, or None if the calendar files do not reach it."""
+    if calendar.next <= last:
+        return None
 
-
-async def first_of(end, work):
-    """Waits for work, or until the service is told to stop."""
-    done, _ = await asyncio.wait([end, work], return_when=asyncio.FIRST_COMPLETED)
-    if work in done:
-        work.result()
-    else:
-        work.cancel()
-
-
-async def opened(door, host, port):
-    """Opens the door, or says why it cannot be."""
+    def make():
+        calendar.flush()
+        return roots.extended(calendar.folder, signature, last)
     try:
-        await door.begin(host, port)
-    except OSError as error:
-        reason = os.strerror(error.errno) if error.errno and error.errno > 0 else error.strerror
-        raise OSError(f"the door cannot listen at {host}:{port}: {reason}") from None
-
-
-async def run(folder, cores=None, aggregators=None, address=("127.0.0.1", 8080), trouble_with=None, **options):
-    """Runs the service until it is told to stop. A test makes trouble with it."""
-    # futures and lines come and go by thousands a second, and nothing of them is in a cycle
-    gc.set_threshold(50_000, 20, 50)
-    files.make_folder(folder)
-    held = files.lock(folder)
-    if options.get("over", "pipes") == "pipes":
-        # a plan's seconds count from its making on: none is made for nodes that cannot start
-        program("ksi_serve")
-    files.remove(os.path.join(folder, "door"))
-    # the name that a killed `forget` gave a file, before a node adds to that
-    files.sync_folder(folder)
-    service = Service(folder, plan_of(folder, cores, aggregators), **options)
-    told = asyncio.Event()
-    for number in (signal.SIGINT, signal.SIGTERM):
-        asyncio.get_running_loop().add_signal_handler(number, told.set)
-    house = House(service)
-    door = service.door = Door(house, open_files(MOST_CONNECTIONS, len(service.network.nodes)))
-    end, extra = asyncio.create_task(told.wait()), [asyncio.create_task(trouble_with(service))] if trouble_with else []
-    try:
-        await first_of(end, asyncio.create_task(service.begin()))
-        if not end.done():
-            await opened(door, *address)
-            files.write(os.path.join(folder, "door"), f"{door.where()}\n{os.getpid()}\n".encode())
-            say(f"the door is open at {door.where()}")
-            await first_of(end, asyncio.create_task(service.watch()))
-            house.closing = True
-            await service.idle(LAST_SECONDS)
-            await service.publish_last()
-    finally:
-        files.remove(os.path.join(folder, "door"))
-        for task in [end, *extra]:
-            task.cancel()
-        if door.server:
-            await door.stop()
-        if service.tasks:
-            await service.stop()
-        held.close()
-    say("stopped")
+        return extension.accepted(make, parts, publications)
+    except (roots.NotComputed, roots.NotRun, Missing):
+        return None

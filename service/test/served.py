@@ -38,7 +38,7 @@ class Served(unittest.TestCase):
         return told.stdout + told.stderr
 
     def start(self, *words, folder=None):
-        told = self.command("start", folder or self.folder, "--door", "127.0.0.1:0", "--publish-every", "2", *words)
+        told = self.command("start", folder or self.folder, "--door", "127.0.0.1:0", "--publish-every", "2", "--clock-unchecked", *words)
         self.addCleanup(self.end)
         self.process = self.door()[1]
         return told
@@ -71,7 +71,7 @@ class Served(unittest.TestCase):
         return json.loads(self.ask("/status")[1])
 
     def wait_for_publication(self, second):
-        for _ in range(300):
+        for _ in range(1800):
             if self.status()["last_publication"] >= second:
                 return
             time.sleep(0.1)

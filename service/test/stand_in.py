@@ -1,16 +1,21 @@
-"""stand_in.py core|aggregator PLAN NUMBER FOLDER NAME: a node for tests of the host where the proved programs are not built. And
-stand_in.py forget PLAN NUMBER FOLDER NAME BEFORE FRESH, which forgets rounds of such an aggregator.
+"""stand_in.py PLAN NODE FOLDER NAME: a node for tests of the host where the proved programs are not built. And
+stand_in.py --forget PLAN NODE FOLDER NAME BEFORE FRESH, which forgets old seconds of such a node.
 
-It takes the lines of a node and answers by the blocks of one (docs/FORMATS.md, "Lines of nodes"), and keeps its facts in a file, a
-line each. Its trees are one hash and its signatures are no signatures, but for a round of one request above which a proved core
-stands: then the response is the signature. The host looks into neither."""
+It takes the lines of a node and answers by the blocks of one (docs/FORMATS.md, "Lines of nodes"), and keeps its facts in a file
+(stand_in_files.py). The words in KSI_STAND_IN say what else it can: `cores`, that cores forget, as those of a program of before do not, and
+`records`, that new files have the form of the proved programs' files. Its calendar is that of calendar_tree.py. Its other trees are one hash, or the one item that
+they have, and its signatures are no signatures, but for a round of one request above which a proved core stands: then the response is
+the signature. The host looks into neither."""
 import collections
-import fcntl
 import hashlib
 import os
 import sys
 
+import stand_in_files
+from calendar_tree import Tree
+
 ZERO = "0" * 64
+CAN = os.environ.get("KSI_STAND_IN", "").split(",")
 
 
 def digest(words):
@@ -28,39 +33,37 @@ class Stand:
                     self.parents.append(words[3])
                 elif words[0] in ("cores", "start"):
                     setattr(self, words[0], int(words[1]))
-        self.file, self.rows = open(path, "a+", encoding="ascii"), []
-        try:
-            fcntl.flock(self.file, fcntl.LOCK_EX | fcntl.LOCK_NB)
-        except OSError:
-            sys.exit("failed file")
-        self.file.seek(0)
-        rows = self.file.readlines()
-        if rows and not rows[-1].endswith("\n"):
-            # a full disk left half of it
-            self.file.truncate(sum(map(len, rows[:-1])))
-            del rows[-1]
-        self.facts = [line.split() for line in rows]
+        self.file, self.rows = stand_in_files.opened(plan, f"{self.kind}{number}", path, "records" in CAN), []
+        self.facts = self.file.facts
         for fact in self.facts:
             self.hold(fact)
-        print(f"ready {len(self.facts)}\n.", flush=True)
 
     def keep(self, *fact):
-        self.file.write(" ".join(fact) + "\n")
-        self.file.flush()
+        self.file.add(fact)
+        self.facts.append(list(fact))
         self.hold(fact)
         self.stored = True
 
     def serve(self):
+        print(f"ready {len(self.facts)}\n.", flush=True)
         for line in sys.stdin:
             if not line.endswith("\n"):
                 return
-            words, self.rows, self.stored = line.split(), [], False
-            answer = getattr(self, "on_" + words[0], lambda *rest: "refused word")(*words[1:])
-            rows = [*([answer] if answer else []), *(["stored"] if self.stored else []), *self.rows, "."]
-            os.write(1, ("\n".join(rows) + "\n").encode())
+            os.write(1, "".join(f"{row}\n" for row in [*self.answer(line), "."]).encode())
+
+    def answer(self, line):
+        """The block that answers a line."""
+        words, self.rows, self.stored = line.split(), [], False
+        answer = getattr(self, "on_" + words[0], lambda *rest: "refused word")(*words[1:])
+        return [*([answer] if answer else []), *(["stored"] if self.stored else []), *self.rows]
+
+    def end(self):
+        self.file.file.close()
 
 
 class Core(Stand):
+    kind = "c"
+
     def __init__(self, *words):
         self.sealed, self.held, self.promised, self.voted, self.tried = {}, {}, {}, {}, {}
         self.open, self.hand = collections.defaultdict(dict), {}
@@ -72,6 +75,17 @@ class Core(Stand):
             self.sealed[second] = (rest[0], rest[1:])
         else:
             getattr(self, name)[second] = rest[0] if len(rest) == 1 else tuple(rest)
+
+    def answer(self, line):
+        words = line.split()
+        second = {"submission": 2, "synod": 2, "seal": 1, "ballot": 1, "respond": 1}.get(words[0])
+        if "cores" in CAN and second is not None and self.is_alone(words[second]):
+            return ["refused forgotten"]
+        return super().answer(line)
+
+    def is_alone(self, second):
+        """Whether only the root of a second is kept."""
+        return second in self.held and not any(second in it for it in (self.sealed, self.promised, self.voted, self.tried))
 
     def all(self, second, text):
         self.rows += [f"send c{core} synod {self.number} {second} {text}" for core in range(self.cores)]
@@ -91,7 +105,7 @@ class Core(Stand):
         if second in self.sealed:
             return "answer sealed"
         items = self.open.pop(second, {})
-        self.keep("sealed", second, digest(list(items.values())), *items)
+        self.keep("sealed", second, next(iter(items.values())) if len(items) == 1 else digest(list(items.values())), *items)
         return "answer done"
 
     def on_ballot(self, second):
@@ -171,14 +185,18 @@ class Core(Stand):
         missing = self.missing(second)
         if missing is not None:
             return f"answer undecided {missing}"
-        return "answer published " + digest([second, self.held[second]])
+        return "answer published " + self.calendar(second).root(int(second))[1:].hex()
 
+    def calendar(self, last):
+        """The calendar to a second."""
+        return Tree(self.start, [b"\x01" + bytes.fromhex(self.held[str(it)]) for it in range(self.start, int(last) + 1)])
 
     def on_chain(self, second, last):
         if self.missing(last) is not None:
             return "not held"
-        self.rows += [f"left {digest([second])}", f"right {digest([last])}"]
-        return "published " + digest([last, self.held[last]])
+        calendar = self.calendar(last)
+        self.rows += [f"{side} {beside[1:].hex()}" for side, beside in calendar.chain(int(second), int(last))]
+        return "published " + calendar.root(int(last))[1:].hex()
 
     def on_held(self, first, count):
         rows = [f"root {it} {self.held[str(it)]}" for it in range(int(first), int(first) + int(count)) if str(it) in self.held]
@@ -187,6 +205,8 @@ class Core(Stand):
 
 
 class Aggregator(Stand):
+    kind = "a"
+
     def __init__(self, *words):
         self.open, self.closed, self.answered = collections.defaultdict(list), {}, {}
         self.numbers = {}
@@ -243,28 +263,38 @@ class Aggregator(Stand):
         return f"signature {item.split(':')[1]}{int(second):016x}{self.answered[second]}"
 
 
-def locked(path):
-    file = open(path, "a+", encoding="ascii")
-    fcntl.flock(file, fcntl.LOCK_EX | fcntl.LOCK_NB)
-    file.seek(0)
-    return file
+def forget(plan, name, folder, old, before, fresh):
+    """Writes what is left: of a core's second its root, and the closing of a round without its items."""
+    if name[0] == "c" and "cores" not in CAN:
+        stand_in_files.fail("node")
+    whole = stand_in_files.opened(plan, name, os.path.join(folder, old), False)
+    if os.path.exists(os.path.join(folder, fresh)) and os.path.getsize(os.path.join(folder, fresh)):
+        stand_in_files.fail("file")
+    new = stand_in_files.opened(plan, name, os.path.join(folder, fresh), "records" in CAN)
+    left = (left_of_core if name[0] == "c" else left_of_aggregator)(whole.facts, int(before))
+    for fact in left:
+        new.add(fact)
+    print(f"left {len(left)} of {len(whole.facts)}")
 
 
-def forget(folder, name, before, fresh):
-    """Writes what is left: the closing of a round that is forgotten without its items, and not its response."""
-    old, new = (locked(os.path.join(folder, it)) for it in (name, fresh))
-    facts = [line.split() for line in old]
-    gone = {fact[1] for fact in facts if fact[0] == "answered" and int(fact[1]) < int(before)}
-    left = [fact[:2] if fact[1] in gone else fact for fact in facts if (fact[0], fact[1] in gone) != ("answered", True)]
-    new.writelines(" ".join(fact) + "\n" for fact in left)
-    new.flush()
-    print(f"left {len(left)} of {len(facts)}")
+def left_of_core(facts, before):
+    held = {fact[1] for fact in facts if fact[0] == "held" and int(fact[1]) < before}
+    return [fact for fact in facts if fact[0] == "held" or fact[1] not in held]
+
+
+def left_of_aggregator(facts, before):
+    gone = {fact[1] for fact in facts if fact[0] == "answered" and int(fact[1]) < before}
+    return [fact[:2] if fact[1] in gone else fact for fact in facts if (fact[0], fact[1] in gone) != ("answered", True)]
+
+
+def node_of(plan, name, path):
+    return {"c": Core, "a": Aggregator}[name[0]](plan, int(name[1:]), path)
 
 
 if __name__ == "__main__":
     words = sys.argv[1:]
     if words[0] == "--forget":
-        forget(*words[3:])
+        forget(*words[1:])
     else:
         plan, node, folder, name = words
-        {"c": Core, "a": Aggregator}[node[0]](plan, int(node[1:]), os.path.join(folder, name)).serve()
+        node_of(plan, node, os.path.join(folder, name)).serve()

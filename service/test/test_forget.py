@@ -7,8 +7,9 @@ from unittest import mock
 
 import stands
 from ksi_service import check, files, forget
-from ksi_service.node import LostFacts
+from ksi_service.folders import Folders
 from ksi_service.record import NodeState, State, last_state
+from ksi_service.storing import LostFacts
 from recorded import most_left
 from served import Served, imprint
 
@@ -85,7 +86,7 @@ class ForgetTest(Served):
         self.assertTrue(all(left <= it for left, it in zip(self.sizes(), most)), (before, self.sizes(), most))
         self.assertLess(sum(self.facts()), sum(facts))
         self.assertNotIn("a0.forgetting", os.listdir(self.folder))
-        self.assertEqual(check.facts_there(self.folder), last_count(self.folder))
+        self.assertEqual(check.facts_there(Folders(self.folder)), last_count(self.folder))
         self.start("--cut-every", "1")
         self.sign(range(90, 120))
         self.kill()
@@ -110,7 +111,7 @@ class ForgetTest(Served):
                 self.assertRaises(Crash, self.forget)
             self.assertEqual(self.sizes()[0] < before[0], at == 2)
             self.assertEqual(os.path.exists(os.path.join(self.folder, "a0.forgetting")), at < 2)
-            self.assertEqual(check.facts_there(self.folder), last_count(self.folder))
+            self.assertEqual(check.facts_there(Folders(self.folder)), last_count(self.folder))
         self.start("--cores", "1")
         self.sign(range(30, 40))
         self.rest()

@@ -1,4 +1,7 @@
 """The files of a record: compressed, damaged, or not there."""
+import asyncio
+import gzip
+import hashlib
 import os
 import tempfile
 import time
@@ -8,7 +11,7 @@ from unittest import mock
 from ksi_service import files, hours
 from ksi_service import record as records
 from ksi_service.hours import Broken
-from ksi_service.record import names, told
+from ksi_service.record import State, names, told
 from recorded import SEALED, Recorded
 
 
@@ -44,7 +47,7 @@ class HoursTest(Recorded):
 
     def test_what_there_was_no_room_for_is_compressed_at_the_next_cut(self):
         async def work(record):
-            with mock.patch.object(hours.gzip, "open", side_effect=OSError(28, "No space left on device")):
+            with mock.patch.object(hours.packed, "member_of", side_effect=OSError(28, "No space left on device")):
                 await record.cut()
                 record.packing[-1].result()
             self.assertEqual([os.path.basename(it) for it in names(self.folder)], ["00000001", "00000002"])
@@ -80,6 +83,107 @@ class HoursTest(Recorded):
         with open(os.path.join(self.folder, "00000001.gz"), "wb") as file:
             file.write(b"half of it")
         self.assertEqual(len(list(told(self.folder))), 1)
+
+
+class DigestTest(Recorded):
+    """Each closed file ends with the digest of its lines, and the next one begins with it."""
+
+    def grown(self, cuts=3):
+        async def work(record):
+            for second in range(5, 5 + cuts):
+                for entry in (["given", "c0", f"tell {second}", None], ["said", "c0", ["answer done"]]):
+                    record.add(entry)
+                await record.cut()
+            record.add(["given", "c0", "tell 99", None])
+        return self.opened(work)
+
+    def last_hour(self):
+        async def work(record):
+            await record.see_last_hour()
+        self.opened(work)
+
+    def test_closed_files_are_those_that_were_closed(self):
+        self.grown()
+        self.assertEqual(hours.see_digests(self.folder), 3)
+        self.last_hour()
+        self.assertEqual(len(list(told(self.folder))), 3)
+        self.grown()
+        self.assertEqual(hours.see_digests(self.folder), 6)
+
+    def test_a_change_in_a_closed_file_is_found(self):
+        self.grown()
+        for number in (1, 2, 3):
+            path = os.path.join(self.folder, f"{number:08}.gz")
+            whole = files.content_of(path)
+            lines = gzip.decompress(whole)
+            for changed in (lines.replace(b"answer done", b"answer none"), lines + lines.splitlines(keepends=True)[1], b"".join(lines.splitlines(keepends=True)[:-1])):
+                self.assertNotEqual(changed, lines)
+                files.write(path, gzip.compress(changed))
+                self.assertRaises(Broken, hours.see_digests, self.folder)
+                if number == 3:
+                    self.assertRaises(Broken, self.last_hour)
+            files.write(path, whole)
+        self.assertEqual(hours.see_digests(self.folder), 3)
+
+    def test_a_file_of_another_run_in_its_place_is_found(self):
+        self.grown()
+        path = os.path.join(self.folder, "00000002.gz")
+        lines = gzip.decompress(files.content_of(path)).splitlines(keepends=True)
+        other = [lines[0], *lines[1:-1] * 2]
+        ends = f'["ends","{hashlib.sha256(b"".join(other)).hexdigest()}"]\n'.encode()
+        files.write(path, gzip.compress(b"".join([*other, ends])))
+        self.assertRaisesRegex(Broken, "00000002.gz is not the file that was closed", hours.see_digests, self.folder)
+
+    def test_files_of_before_have_no_digest(self):
+        self.write(*SEALED)
+        word, state = State().begins()
+        del state["digest"]
+        self.write([word, state], number=2)
+        self.assertEqual(hours.see_digests(self.folder), 0)
+        self.last_hour()
+        self.grown(1)
+        self.assertEqual(hours.see_digests(self.folder), 1)
+
+    def test_a_crash_after_the_last_line_of_a_file_begins_the_next_one(self):
+        async def work(record):
+            record.add(["ready", "c0", 0, 0])
+            with mock.patch.object(files, "write", side_effect=OSError(28, "No space left on device")), self.assertRaises(OSError):
+                await record.cut()
+        self.opened(work)
+        self.assertEqual(len(names(self.folder)), 1)
+        self.assertEqual(self.opened().number, 2)
+        self.assertEqual(hours.see_digests(self.folder), 1)
+
+
+class DiscardTest(Recorded):
+    def test_all_closed_files_but_some_are_removed(self):
+        async def work(record):
+            record.discard = 2
+            for second in range(5, 10):
+                for entry in (["given", "c0", f"seal {second}", None], ["said", "c0", ["answer done"]]):
+                    record.add(entry)
+                await record.cut()
+                await asyncio.wrap_future(record.packing[-1])
+            return record.lost()
+        lost = []
+        self.opened(lambda record: self.noted(work, record, lost))
+        self.assertEqual([hours.number_of(it) for it in names(self.folder)], [4, 5, 6])
+        self.assertEqual((lost, hours.discarded(self.folder)), ([{"files_discarded": 3, "no_items_before": 7}], 3))
+        for work in (lambda: list(told(self.folder)), lambda: hours.see_digests(self.folder)):
+            with self.assertRaisesRegex(Broken, "--discard"):
+                work()
+        self.assertEqual(self.opened().state.steps, 5)
+
+    async def noted(self, work, record, lost):
+        lost.append(await work(record))
+
+    def test_nothing_is_removed_unless_it_is_asked_for(self):
+        async def work(record):
+            for _ in range(4):
+                await record.cut()
+            self.assertEqual(record.lost(), {})
+        self.opened(work)
+        self.assertEqual(len(names(self.folder)), 5)
 
 
 class TornTest(unittest.TestCase):

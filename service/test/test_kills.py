@@ -8,6 +8,7 @@ import subprocess
 import time
 import unittest
 
+from ksi_service import files
 from ksi_service.elements import published_in
 from served import Served, imprint
 
@@ -56,31 +57,38 @@ class KillsTest(Served):
         if told:
             self.assertGreaterEqual(told.signatures, 120)
 
-    @unittest.skipIf(os.geteuid() != 0, "a file system of 2 MiB is mounted by root alone")
     def test_a_full_disk(self):
+        """A file system of 2 MiB. Where none can be mounted, the host loses the right to write longer files."""
         os.mkdir(self.folder)
-        if subprocess.run(["mount", "-t", "tmpfs", "-o", "size=2m", "tmpfs", self.folder], capture_output=True, check=False).returncode:
-            self.skipTest("no file system of 2 MiB can be mounted here")
-        self.addCleanup(subprocess.run, ["umount", "-l", self.folder], check=True)
+        is_mounted = subprocess.run(["mount", "-t", "tmpfs", "-o", "size=2m", "tmpfs", self.folder], capture_output=True, check=False).returncode == 0
+        if is_mounted:
+            self.addCleanup(subprocess.run, ["umount", "-l", self.folder], check=True)
         self.start()
         self.assertEqual(self.ask("/sign", imprint(1))[0], 200)
-        with open(os.path.join(self.folder, "filler"), "wb", buffering=0) as file:
-            try:
-                while True:
-                    file.write(b"\0" * 4096)
-            except OSError:
-                pass
-        for _ in range(300):
+        filler = os.path.join(self.folder, "filler")
+        if is_mounted:
+            self.fill(filler)
+        else:
+            subprocess.run(["prlimit", "--pid", str(self.process), "--fsize=1"], check=True)
+        for _ in range(1200):
             if not os.path.exists(f"/proc/{self.process}"):
                 break
             time.sleep(0.1)
         self.assertFalse(os.path.exists(f"/proc/{self.process}"), "a host goes on without a record")
-        os.remove(os.path.join(self.folder, "filler"))
+        files.remove(filler)
         self.start()
         self.assertEqual(self.ask("/sign", imprint(2))[0], 200)
         self.wait_for_publication(int(time.time()))
         self.command("stop")
         self.checked()
+
+    def fill(self, path):
+        with open(path, "wb", buffering=0) as file:
+            try:
+                while True:
+                    file.write(b"\0" * 4096)
+            except OSError:
+                pass
 
 
 if __name__ == "__main__":

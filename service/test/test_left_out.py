@@ -54,7 +54,7 @@ class StoppedTest(unittest.TestCase):
         with mock.patch.object(extension, "extend_by", lambda core, *_: (None, core.name)):
             self.assertEqual(extension.extend_stopped(self.folder, b"", None), "c1")
         self.hold("c1")
-        with mock.patch.object(extension, "extend_by", side_effect=extension.NotExtended("c2 lacks a second up to 9")):
+        with mock.patch.object(extension, "extend_by", side_effect=extension.NotExtended("seconds-missing", "c2 lacks a second up to 9")):
             self.assertRaisesRegex(extension.NotExtended, "c2 lacks", extension.extend_stopped, self.folder, b"", None)
         self.hold("c2")
         self.assertRaisesRegex(Refused, "c0 ended", extension.extend_stopped, self.folder, b"", None)

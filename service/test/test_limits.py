@@ -3,7 +3,7 @@ import resource
 import unittest
 from unittest import mock
 
-from ksi_service import service
+from ksi_service import opening
 from ksi_service.door import MOST_ACCEPTED, MOST_CONNECTIONS
 
 
@@ -12,7 +12,7 @@ class LimitsTest(unittest.TestCase):
         """The limit that is set, and how many connections may be open under it."""
         limits = []
         with mock.patch.object(resource, "getrlimit", lambda _: (1024, hard)), mock.patch.object(resource, "setrlimit", lambda _, both: limits.append(both[0])):
-            most = service.open_files(MOST_CONNECTIONS, nodes)
+            most = opening.open_files(MOST_CONNECTIONS, nodes)
         return limits[-1] if limits else 1024, most
 
     def test_nodes_have_their_files_beside_all_connections(self):

@@ -7,9 +7,12 @@ import tempfile
 import unittest
 from unittest import mock
 
-from ksi_service.node import Down, GivenUp, LostFacts, Node
+from stands import logged
+from ksi_service.lines import Down
+from ksi_service.node import GivenUp, Node
 from ksi_service import node as nodes
 from ksi_service.record import Record, told
+from ksi_service.storing import LostFacts
 
 FAKE = os.path.join(os.path.dirname(os.path.abspath(__file__)), "fake_node.py")
 
@@ -20,13 +23,13 @@ class NodeTest(unittest.TestCase):
         self.addCleanup(self.room.cleanup)
         self.path = os.path.join(self.room.name, "record")
         self.facts = os.path.join(self.room.name, "facts")
-        self.log = []
+        self.log = logged(self, "ksi_service.node")
 
     def play(self, work, waits=True):
         """Runs a node, and a play with it, over the folder's record."""
         async def go():
             record, steps = Record(self.path), []
-            node = Node("c0", [sys.executable, FAKE, self.facts], record, lambda step, block: steps.append((step, block)), self.log.append)
+            node = Node("c0", [sys.executable, FAKE, self.facts], record, lambda step, block: steps.append((step, block)))
             tasks = [asyncio.create_task(record.run()), asyncio.create_task(node.run())]
             while not node.alive:
                 for task in tasks:
@@ -56,6 +59,47 @@ class NodeTest(unittest.TestCase):
         self.assertEqual(said, [["answer done"], ["answer done", "stored", "send c0 synod 0 5 success aa"], ["refused word"]])
         self.assertEqual([step for step, _ in steps], [0, 1])
         self.assertEqual([line for line, _ in self.told()], ["tell 5", "seal 5"])
+
+    def test_a_line_that_it_may_not_take_is_neither_given_nor_recorded(self):
+        """A single one, one of many requests, and all of them."""
+        async def work(node):
+            node.may_take = lambda text: not text.endswith("ff")
+            asks = [node.ask_all(f"request {number} 5 {'ff' if number in (3, 7) else '00'}")[0] for number in range(9)]
+            asks += node.ask_all("tell ff") + node.ask_all("close 5")
+            asks += [node.ask_all(f"request {number} 6 ff")[0] for number in (10, 11)] + node.ask_all("close 6")
+            return await asyncio.gather(*asks, return_exceptions=True), node.withheld, node.unsynced, len(node.flying)
+        (said, *counts), _ = self.play(work)
+        self.assertEqual([number for number, it in enumerate(said) if isinstance(it, Down)], [3, 7, 9, 11, 12])
+        self.assertEqual([it for it in said if not isinstance(it, Down)], [["answer done"]] * 9)
+        self.assertEqual(counts, [5, 0, 0])
+        self.assertEqual([line for line, _ in self.told()], [*(f"request {number} 5 00" for number in (0, 1, 2, 4, 5, 6, 8)), "close 5", "close 6"])
+
+    def test_requests_are_given_together_and_before_their_round_is_closed(self):
+        async def work(node):
+            before = node.record.syncs
+            asks = [node.ask_all(f"request {number} 5 00")[0] for number in range(20)]
+            self.assertEqual(len(node.flying), 0)
+            asks += node.ask_all("close 5", "tell 6")
+            said = await asyncio.gather(*asks)
+            return said, node.record.syncs - before
+        (said, syncs), _ = self.play(work)
+        self.assertEqual(said, [["answer done"]] * 22)
+        self.assertEqual([line for line, _ in self.told()], [*(f"request {number} 5 00" for number in range(20)), "close 5", "tell 6"])
+        self.assertLess(syncs, 12)
+
+    def test_many_requests_do_not_wait(self):
+        async def work(node):
+            asks = [node.ask_all(f"request {number} 5 00")[0] for number in range(nodes.MANY_REQUESTS)]
+            self.assertEqual((len(node.flying), len(node.requests)), (nodes.MANY_REQUESTS, 0))
+            await asyncio.gather(*asks)
+        self.play(work)
+
+    def test_requests_of_a_node_that_ends_are_lost(self):
+        async def work(node):
+            asked = node.ask_all("request 1 5 00")[0]
+            node.kill()
+            self.assertEqual([type(it) for it in await asyncio.gather(asked, return_exceptions=True)], [Down])
+        self.play(work)
 
     def test_a_step_that_was_stored_and_never_said_is_on_the_record(self):
         async def work(node):

@@ -12,6 +12,10 @@ WHY = stands.missing(stands.NODE)
 PLAN = os.path.join(TOP, "crates", "ksi_serve", "data", "plan")
 DATA = os.path.join(stands.HERE, "data")
 
+SECOND = 1700000000
+# SHA-256 of no bytes, the root of a round with this item alone
+ROOT = "e3b0c44298fc1c149afbf4c8996fb92427ae41e4649b934ca495991b7852b855"
+
 # the words behind the program's name, where FOLDER has a file `facts` of a0, and the word behind `failed`
 WORDS = (
     ((), "words"),
@@ -29,7 +33,7 @@ WORDS = (
     (("--forget", PLAN, "a0", "FOLDER", "facts", "+1", "new"), "words"),
     (("--forget", "no plan", "a0", "FOLDER", "facts", "1", "new"), "plan"),
     (("--forget", PLAN, "a1", "FOLDER", "facts", "1", "new"), "node"),
-    (("--forget", PLAN, "c0", "FOLDER", "facts", "1", "new"), "node"),
+    (("--forget", PLAN, "c1", "FOLDER", "facts", "1", "new"), "node"),
     (("--forget", PLAN, "a0", "FOLDER", "facts", "1", "other"), "file"),
     (("--forget", PLAN, "a0", "FOLDER", "other", "1", "new"), "file"),
     (("--keep", PLAN, "a0", "FOLDER", "facts", "1", "new"), "words"),
@@ -61,6 +65,22 @@ class ProgramsTest(unittest.TestCase):
         self.assertEqual((run.stdout, run.returncode), ("left 3 of 4\n", 0))
         run = self.run_with(PLAN, "a0", self.folder, "new")
         self.assertEqual((run.stdout, run.returncode), ("ready 3\n.\n", 0))
+
+    def test_a_core_that_forgets(self):
+        with open(os.path.join(TOP, "crates", "ksi_serve", "stdin"), encoding="ascii") as file:
+            vote = "".join(file.readlines()[:8])
+        self.run_with(PLAN, "c0", self.folder, "facts", given=vote)
+        run = self.run_with("--forget", PLAN, "c0", self.folder, "facts", "1700000002", "new")
+        self.assertEqual((run.stdout, run.returncode), ("left 1 of 5\n", 0))
+        lines = [f"{word} {SECOND}" for word in ("seal", "ballot", "respond", "tell", "publish")]
+        lines += [f"submission 0 {SECOND} {ROOT} 0", f"synod 0 {SECOND} next 32", f"synod 0 {SECOND} success {ROOT}", f"held {SECOND} 1", "seal 1700000001"]
+        run = self.run_with(PLAN, "c0", self.folder, "new", given="\n".join([*lines, ""]))
+        forgotten = ["refused forgotten"]
+        told = ["answer done", f"send c0 synod 0 {SECOND} success {ROOT}"]
+        blocks = [block.splitlines() for block in run.stdout.split(".\n")]
+        self.assertEqual(blocks[1:5], [forgotten, forgotten, forgotten, told])
+        self.assertTrue(blocks[5][0].startswith("answer published "))
+        self.assertEqual(blocks[6:], [forgotten, forgotten, forgotten, [f"root {SECOND} {ROOT}"], ["answer done", "stored"], []])
 
     def test_words(self):
         shutil.copyfile(os.path.join(DATA, "forgotten.facts"), os.path.join(self.folder, "facts"))

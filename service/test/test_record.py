@@ -9,7 +9,8 @@ import time
 import unittest
 from unittest import mock
 
-from ksi_service import apart, files, replay, retrace
+from ksi_service import apart, files, hours, replay, retrace
+from ksi_service.folders import Folders
 from ksi_service.plan import Plan
 from ksi_service.record import Broken, Record, Signed, State, Step, names, told
 from ksi_service.replay import schedule_of
@@ -114,10 +115,10 @@ class RecordTest(Recorded):
             record, begun = Record(self.folder), threading.Event()
             write = record.write
 
-            def slowly(content):
+            def slowly(*words):
                 begun.set()
                 time.sleep(0.2)
-                write(content)
+                write(*words)
             record.write = slowly
             running = asyncio.create_task(record.run())
             work(record)
@@ -158,6 +159,36 @@ class RecordTest(Recorded):
         self.opened(work)
         self.assertEqual(list(self.opened().state.nodes), ["c0", "c1"])
 
+    def test_effects_of_the_vote_come_first_and_all_others_in_order(self):
+        seen = []
+
+        async def work(record):
+            for name in ("a0", "c0", "a1", "c1"):
+                record.add(["ready", name, 0, 0], lambda name=name: seen.append(name), first=name[0] == "c")
+            await record.flush()
+        self.opened(work)
+        self.assertEqual(seen, ["c0", "c1", "a0", "a1"])
+
+    def test_entries_that_are_not_urgent_wait_for_others(self):
+        async def work(record):
+            running = asyncio.create_task(record.run())
+            begun = asyncio.get_running_loop().time()
+            for number in range(20):
+                record.add(["ready", f"a{number}", 0, 0], urgent=False)
+                await asyncio.sleep(0.002)
+            while record.waiting:
+                await asyncio.sleep(0.002)
+            self.assertLess(asyncio.get_running_loop().time() - begun, 5)
+            record.add(["ready", "a20", 0, 0], urgent=False)
+            record.add(["ready", "c0", 0, 0])
+            await asyncio.sleep(0)
+            await record.flush()
+            self.assertEqual(record.waiting, [])
+            running.cancel()
+            await asyncio.gather(running, return_exceptions=True)
+        # one group each quarter of a second, and one with the urgent entry
+        self.assertLessEqual(self.opened(work).syncs, 4)
+
     def test_an_entry_that_cannot_stand_there_is_told(self):
         for entry in (["said", "c0", ["answer done"]], ["given", "c0"], ["gone", "c0"], ["ready", "c0", 0, 1],
                       ["did", "c0", "1-1", "1-1", "synod 0 5 next 16", "c1 9-9 0", ["answer done"]]):
@@ -193,8 +224,8 @@ class RecordTest(Recorded):
                    ["given", "c0", f"submission 0 5 {ONES} 0", [1, 0]], ["given", "c0", "seal 4", None], ["said", "c0", ["answer done"]],
                    ["said", "c0", ["refused second"]], ["signed", 0, "abcd"], ["given", "c0", "seal 5", None], ["ready", "c0", 1, 1]]
         self.write(*self.entries)
-        with open(os.path.join(self.room.name, "plan"), "w", encoding="ascii") as file:
-            file.write(Plan(1, 5, ("c0",)).text())
+        for name, text in (("plan", Plan(1, 5, ("c0",)).text()), ("c0.facts", ""), ("a0.facts", "")):
+            files.write(os.path.join(self.room.name, name), text.encode())
 
     def test_what_was_forgotten_is_counted_where_nobody_was_told(self):
         """By what nodes are started with: over pipes, from the new file or still from the old one, and behind a server."""
@@ -215,7 +246,8 @@ class RecordTest(Recorded):
 
     def test_entries_are_those_of_ksi_retrace(self):
         self.run_of_two()
-        self.assertEqual("".join(retrace.entries(self.folder)), f"""\
+        self.assertEqual("".join(retrace.entries(told(self.folder))), f"""\
+ksi-record 2
 a0 request 77 5 {ONES}
 answer number 77
 .
@@ -224,7 +256,7 @@ answer done
 stored
 send c0 submission 0 5 {ONES} 0
 .
-deliver 1 0
+deliver 1 0 c0 submission 0 5 {ONES} 0
 answer done
 .
 sign 0
@@ -265,11 +297,11 @@ restart c0
             os.chmod(path, stat.S_IRWXU)
             with mock.patch.dict(os.environ, KSI_BIN=self.room.name):
                 if told_of:
-                    self.assertEqual(retrace.retrace("plan", self.folder), told_of)
+                    self.assertEqual(retrace.retrace("plan", told(self.folder)), told_of)
                 else:
-                    self.assertRaises(retrace.Differs, retrace.retrace, "plan", self.folder)
+                    self.assertRaises(retrace.Differs, retrace.retrace, "plan", told(self.folder))
         with open(os.path.join(self.room.name, "entries"), encoding="ascii") as file:
-            self.assertEqual(file.read(), "".join(retrace.entries(self.folder)))
+            self.assertEqual(file.read(), "".join(retrace.entries(told(self.folder))))
 
     def test_a_record_is_of_one_plan(self):
         """As where a person changed to whom an aggregator submits: its file does not tell that."""
@@ -286,18 +318,33 @@ restart c0
             asyncio.run(cut(plans[1]))
         asyncio.run(cut(plans[0]))
 
+    def test_a_file_that_an_older_version_began_is_ended_at_the_start(self):
+        """An older host would read it on, also after cores forgot. It does not read a file that begins as those of this version."""
+        files.make_folder(self.folder)
+        old = {"steps": 0, "second": 7, "nodes": [["c0", 1, [], None]], "seen": {}, "sent": {}, "plan": Plan(1, 5, ("c0",)).text()}
+        files.write(os.path.join(self.folder, "00000001"), (json.dumps(["begins", old]) + "\n").encode())
+
+        async def opened():
+            record = Record(self.folder, Plan(1, 5, ("c0",)).text())
+            await record.close()
+            return record.number
+        self.assertEqual([asyncio.run(opened()) for _ in range(2)], [2, 2])
+        self.assertTrue(hours.ending_of(names(self.folder)[0])[1])
+        self.assertEqual(hours.state_before(names(self.folder)[1])["latest"], 7)
+
     def test_what_ends_before_it_has_read_all_is_heard(self):
         """As where an early entry differs, and more is behind it than a pipe holds."""
         said = [["given", "c0", f"tell 5 {ONES}", None], ["said", "c0", ["answer done"]]]
         self.write(["ready", "c0", 0, 0], *said * 5000)
         plan, path = os.path.join(self.room.name, "plan"), os.path.join(self.room.name, "ksi_retrace")
         files.write(plan, Plan(1, 5, ("c0",)).text().encode())
+        files.write(os.path.join(self.room.name, "c0.facts"), b"")
         files.write(path, b"#!/bin/sh\necho differs 2 9; exit 1\n")
         os.chmod(path, stat.S_IRWXU)
         with mock.patch.dict(os.environ, KSI_BIN=self.room.name):
-            for hold in (retrace.retrace, apart.hold_all):
+            for work in (lambda: retrace.retrace(plan, told(self.folder)), lambda: apart.hold_all(Folders(self.room.name))):
                 with self.assertRaisesRegex(retrace.Differs, "differs 2 9"):
-                    hold(plan, self.folder)
+                    work()
 
     def test_the_log_of_each_node(self):
         self.run_of_two()
@@ -321,29 +368,29 @@ send c0 submission 0 5 {ONES} 0
 
     def test_logs_are_joined(self):
         self.run_of_two()
-        self.assertEqual(apart.join(self.folder), (5, 1, 1))
+        self.assertEqual(apart.join(told(self.folder)), (5, 1, 1, 0))
         line = f"submission 0 5 {ONES} 0"
         for more in (["given", "c0", line, [0, 0]], ["given", "c0", line, [1, 1]], ["given", "c0", line, [5, 0]], ["given", "c1", line, [1, 0]],
                      ["given", "c0", line + " x", [1, 0]], ["given", "c0", line, None], ["given", "a0", f"request 77 6 {ONES}", None]):
             self.write(*self.entries, more, ["said", more[1], ["answer done"]])
-            self.assertRaises(retrace.Differs, apart.join, self.folder)
+            self.assertRaises(retrace.Differs, apart.join, told(self.folder))
         again = ["given", "c0", line, [1, 0]]
         self.write(*self.entries, again, ["said", "c0", ["answer known"]])
-        self.assertEqual(apart.join(self.folder), (6, 1, 2))
+        self.assertEqual(apart.join(told(self.folder)), (6, 1, 2, 0))
 
     def test_what_ksi_retrace_says_of_a_node_is_taken(self):
         self.run_of_two()
-        plan, path = os.path.join(self.room.name, "plan"), os.path.join(self.room.name, "ksi_retrace")
+        path = os.path.join(self.room.name, "ksi_retrace")
         counted = 'n=$(grep -cE "^(unsaid |restart )?$2( |$)"); echo agrees $n'
-        for text, counts in ((counted, (5, 1, 1)), (counted.replace("$n", "${n}1"), None), ("cat > /dev/null; echo agrees", None), ("cat > /dev/null; echo differs 2 9; exit 1", None), ("exit 7", None)):
+        for text, counts in ((counted, (5, 1, 1, 0)), (counted.replace("$n", "${n}1"), None), ("cat > /dev/null; echo agrees", None), ("cat > /dev/null; echo differs 2 9; exit 1", None), ("exit 7", None)):
             with open(path, "w", encoding="ascii") as file:
                 file.write(f"#!/bin/sh\n{text}\n")
             os.chmod(path, stat.S_IRWXU)
             with mock.patch.dict(os.environ, KSI_BIN=self.room.name):
                 if counts:
-                    self.assertEqual(apart.hold_all(plan, self.folder), counts)
+                    self.assertEqual(apart.hold_all(Folders(self.room.name)), counts)
                 else:
-                    self.assertRaises(retrace.Differs, apart.hold_all, plan, self.folder)
+                    self.assertRaises(retrace.Differs, apart.hold_all, Folders(self.room.name))
 
     def test_a_state_is_made_again_of_its_entry(self):
         state = State()
@@ -353,6 +400,21 @@ send c0 submission 0 5 {ONES} 0
         again.take(json.loads(json.dumps(state.begins())))
         self.assertEqual(json.dumps(again.begins()), json.dumps(state.begins()))
         self.assertEqual([it.line for it in again.take(["ready", "c0", 2, 1])], ["synod 1 5 next 17", None])
+
+    def test_lines_of_other_machines_show_how_far_their_records_are(self):
+        state, again = State(), State()
+        state.take(["ready", "c0", 0, 0])
+        for message in (None, [3, 0], ["B", 7, 1], ["B", 5, 0], ["C", 0, 0]):
+            state.take(["given", "c0", "synod 1 5 next 16", message])
+        again.take(json.loads(json.dumps(state.begins())))
+        self.assertEqual((state.heard, again.heard), ({"B": 8, "C": 1},) * 2)
+        self.assertEqual([it.message for it in again.take(["ready", "c0", 1, 3])[:3]], [None, [3, 0], ["B", 7, 1]])
+
+    def test_a_record_of_before_has_heard_of_no_machine(self):
+        word, old = State().begins()
+        del old["heard"]
+        self.state.take([word, old])
+        self.assertEqual(self.state.heard, {})
 
 
 if __name__ == "__main__":

@@ -1,4 +1,4 @@
-"""The log of a node, held by the proved `ksi_retrace`: what is given, and the line and the exit status that come."""
+"""Records of runs and logs of nodes, compared by the proved `ksi_retrace`: the input, and the last line and the exit status that come."""
 import os
 import subprocess
 import unittest
@@ -7,7 +7,8 @@ import stands
 from ksi_service.programs import TOP, program
 
 WHY = stands.missing("ksi_retrace")
-PLAN = os.path.join(TOP, "crates", "ksi_retrace", "data", "plan")
+DATA = os.path.join(TOP, "crates", "ksi_retrace", "data")
+PLAN = os.path.join(DATA, "plan")
 LOG = os.path.join(stands.HERE, "data", "log_of_c0")
 
 HASH = "e3b0c44298fc1c149afbf4c8996fb92427ae41e4649b934ca495991b7852b855"
@@ -47,6 +48,18 @@ OF_AGGREGATOR = (
     ("a0 close", f"a0 request 7 1700000000 {OTHER}\nanswer number 7\n.\na0 close", "a0", "refused taken 1 4", 3),
     ("a0 close", "a0 sign 7\na0 close", "a0", "refused word 1 4", 3),
 )
+SUCCESS = f"deliver 8 0 c0 synod 0 1700000000 success {HASH}\n"
+# a text of the record of version 2, the text in its place, the last line, the status
+RECORDS = (
+    ("", "", "agrees 14 unsaid 1 signatures 1", 0),
+    (f"{SUCCESS}answer nothing\n.\nunsaid", f"{SUCCESS.replace('e3', '22')}answer nothing\n.\nunsaid", "differs 10 44", 1),
+    ("deliver 4 0 c0 synod", "deliver 4 0 c1 synod", "differs 6 24", 1),
+    ("deliver 4 0 c0 synod 0", "deliver 4 0 c0 synod x", "differs 6 24", 1),
+    ("deliver 4 0 c0 synod", f"deliver 4 0 c0 {'synod' * 10000}", "differs 6 24", 1),
+    ("deliver 4 0 c0 synod 0 1700000000 next 16", "deliver 4 0", "refused spelling 6 24", 3),
+    ("deliver 4 0 c0", "deliver 4 1 c0", "refused message 6 24", 3),
+    ("ksi-record 2\n", "ksi-record 3\n", "refused word 0 1", 3),
+)
 WORDS = (
     ((), "failed words", 2),
     (("--node", "c0", "no plan"), "failed plan", 3),
@@ -68,6 +81,35 @@ class RetraceTest(unittest.TestCase):
             with self.subTest(old=old, new=new, node=node):
                 self.assertTrue(not old or log.count(old) == 1)
                 self.holds(("--node", node, PLAN), log.replace(old, new) if old else log, line, status)
+
+    def last(self, record, line, status):
+        ran = subprocess.run([program("ksi_retrace"), PLAN], input=record, capture_output=True, text=True, check=False, timeout=60)
+        self.assertEqual((ran.stdout.split("\n")[-2], ran.returncode), (line, status))
+
+    def record(self, name="record"):
+        with open(os.path.join(DATA, name), encoding="ascii") as file:
+            return file.read()
+
+    def test_records(self):
+        record = self.record()
+        for old, new, line, status in RECORDS:
+            with self.subTest(old=old[:60], new=new[:60]):
+                self.assertTrue(not old or record.count(old) == 1)
+                self.last(record.replace(old, new) if old else record, line, status)
+
+    def test_a_forged_line(self):
+        """The stored run of the program has two records that differ in one line, which claims another root."""
+        good, forged = (self.record(name).split("\n") for name in ("record", "forged"))
+        self.assertEqual([one.replace(HASH, "22" * 32) for one, other in zip(good, forged) if one != other], [other for one, other in zip(good, forged) if one != other])
+        self.last("\n".join(forged), "differs 15 56", 1)
+
+    def test_version_1(self):
+        """It has no lines of deliveries."""
+        rows = self.record().split("\n")[1:]
+        record = "\n".join(row if not row.startswith("deliver ") else " ".join(row.split(" ")[:3]) for row in rows)
+        self.last(record, "agrees 14 unsaid 1 signatures 1 lines not compared", 0)
+        self.last("", "agrees 0 unsaid 0 signatures 0 lines not compared", 0)
+        self.last("ksi-record 2\n", "agrees 0 unsaid 0 signatures 0", 0)
 
     def test_logs_of_a_core(self):
         with open(LOG, encoding="ascii") as file:

@@ -79,7 +79,8 @@ class ServiceTest(Served):
         self.assertEqual(self.ask("/sign", imprint(0))[0], 200)
         with concurrent.futures.ThreadPoolExecutor(40) as pool:
             asks = [pool.submit(sign, number) for number in range(1, 41)]
-            while self.status()["waiting"] < 40:
+            # under much load some are signed before the last ones wait
+            while self.status()["waiting"] + len(told) < 40:
                 time.sleep(0.02)
             began = int(time.time()) - 2
             self.assertIn("stopped", self.command("stop"))
@@ -99,7 +100,7 @@ class ServiceTest(Served):
     def test_a_log_that_cannot_be_written_ends_nothing(self):
         """As one on a disk that is full, or whose reader has ended."""
         with open("/dev/full", "w", encoding="ascii") as full, subprocess.Popen(
-                [sys.executable, stands.COMMAND, "run", self.folder, "--door", "127.0.0.1:0"], stderr=full, env=self.outside) as host:
+                [sys.executable, stands.COMMAND, "run", self.folder, "--door", "127.0.0.1:0", "--clock-unchecked"], stderr=full, env=self.outside) as host:
             self.addCleanup(host.kill)
             while host.poll() is None and not os.path.exists(os.path.join(self.folder, "door")):
                 time.sleep(0.05)

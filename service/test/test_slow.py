@@ -9,14 +9,17 @@ import unittest
 from unittest import mock
 
 import stands
-from clocked import Clocked, imprint
-from ksi_service import network as carriers
+from hosted import Hosted, imprint, sign_all
+from ksi_service import host as hosts
 from ksi_service import node as nodes
-from ksi_service.network import Network
-from ksi_service.node import Down, GivenUp
+from ksi_service.host import Host
+from ksi_service.lines import Down
+from ksi_service.node import GivenUp
 from ksi_service.plan import Plan
 from ksi_service.record import Record, Step, told
 from test_node import FAKE
+
+ALONE = "nodes count as late by time"
 
 SLOW = [sys.executable, os.path.join(stands.HERE, "slow_node.py")]
 
@@ -36,34 +39,27 @@ async def started_again(node, *words):
         await asyncio.sleep(0.01)
 
 
-class SlowTest(Clocked):
+class SlowTest(Hosted):
     def signed_beside(self, name):
-        """How long requests took beside a node that takes two seconds for each line."""
-        async def work(network, clock):
-            await started_again(network.nodes[name], *SLOW, "2")
-            spans = []
-
-            async def sign(number):
-                began = time.monotonic()
-                await clock.sign(imprint(number))
-                spans.append(time.monotonic() - began)
+        """How many requests are signed beside a node that takes a minute for each line."""
+        async def work(host):
+            await started_again(host.nodes[name], *SLOW, "60")
             asks = []
             for number in range(25):
-                asks.append(asyncio.create_task(sign(number)))
+                asks.append(asyncio.create_task(host.desk.sign(imprint(number))))
                 await asyncio.sleep(0.2)
-            await asyncio.wait_for(asyncio.gather(*asks), 20)
-            return sorted(spans)
+            return len(await asyncio.gather(*asks))
         with looked_often():
             return self.play(work)
 
-    def test_a_leader_that_is_slow_costs_some_seconds(self):
-        self.assertLess(self.signed_beside("c0")[-1], 20)
+    def test_a_leader_that_is_slow_holds_up_nothing_for_long(self):
+        self.assertEqual(self.signed_beside("c0"), 25)
 
-    def test_a_core_that_is_slow_and_does_not_lead_costs_less(self):
-        self.assertLess(self.signed_beside("c2")[-1], 10)
+    def test_a_core_that_is_slow_and_does_not_lead_holds_up_nothing(self):
+        self.assertEqual(self.signed_beside("c2"), 25)
 
-    def test_an_aggregator_that_is_slow_costs_some_seconds(self):
-        self.assertLess(self.signed_beside("a0")[-1], 20)
+    def test_an_aggregator_that_is_slow_holds_up_nothing_for_long(self):
+        self.assertEqual(self.signed_beside("a0"), 25)
 
 
 class LateTest(unittest.TestCase):
@@ -123,48 +119,49 @@ class BusyTest(unittest.TestCase):
     def test_a_node_is_not_late_for_a_record_that_is_slow(self):
         write = Record.write
 
-        def slowly(record, content):
+        def slowly(record, *words):
             time.sleep(0.2)
-            write(record, content)
+            write(record, *words)
         with mock.patch.object(Record, "write", slowly):
             self.assertEqual(self.answered([f"seal {number}" for number in range(8)]), 8)
 
 
-class StartTest(Clocked):
+class StartTest(Hosted):
     def started(self, *names):
-        """What a start says two of whose nodes do not get ready, and whether it begins."""
-        said, plan = [], Plan(3, 5, ("c0", "c2"))
+        """What a start logs two of whose nodes do not get ready, and whether it begins."""
+        plan = Plan(3, 5, ("c0", "c2"))
 
         async def go():
-            network = Network(self.folder, plan, say=said.append)
+            host = Host(self.folder, plan)
             for name in names:
-                network.nodes[name].words = ["/bin/sleep", "100"]
-            network.begin()
+                host.nodes[name].words = ["/bin/sleep", "100"]
+            await host.start()
             try:
-                await asyncio.wait_for(network.ready(), 4)
+                await asyncio.wait_for(host.ready(), 10)
                 return True
             except asyncio.TimeoutError:
                 return False
             finally:
-                for node in network.nodes.values():
+                for node in host.nodes.values():
                     node.kill()
-                await network.stop()
+                await host.stop()
         with open(os.path.join(self.folder, "plan"), "w", encoding="ascii") as file:
             file.write(plan.text())
-        with mock.patch.object(carriers, "QUIET_START_SECONDS", 2), mock.patch.object(carriers, "PATIENT_SECONDS", 2.5):
+        said = stands.logged(self, "ksi_service.host")
+        with mock.patch.object(hosts, "QUIET_START_SECONDS", 4), mock.patch.object(hosts, "PATIENT_SECONDS", 5):
             return asyncio.run(go()), said
 
     def test_a_start_that_lacks_a_majority_fails_before_it_is_ready(self):
         """Else the door would be open for a moment, and `start` would say so."""
         async def work(*_):
             self.fail("it is ready")
-        real = Network.begin
+        real = Host.start
 
-        def begin(network):
+        def start(host, *words):
             for name in ("c1", "c2"):
-                network.nodes[name].words = ["/bin/false"]
-            return real(network)
-        with mock.patch.object(Network, "begin", begin), mock.patch.object(nodes, "FIRST_PAUSE", 0.01), self.assertRaises(GivenUp):
+                host.nodes[name].words = ["/bin/false"]
+            return real(host, *words)
+        with mock.patch.object(Host, "start", start), mock.patch.object(nodes, "FIRST_PAUSE", 0.01), self.assertRaises(GivenUp):
             self.play(work)
 
     def test_a_start_says_which_nodes_it_waits_for(self):
@@ -174,28 +171,27 @@ class StartTest(Clocked):
         self.assertEqual(self.started("c2", "a1"), (True, ["waits for c2 a1 to start and to read their files", "the service goes on without c2 a1 until they are ready"]))
 
 
-class LeftOutTest(Clocked):
+class LeftOutTest(Hosted):
     def left_out(self, *names, aggregators="c0,c1,c1", cores=3):
-        """What requests come to once the processes of these nodes end whenever they are started."""
-        async def work(network, clock):
+        """Which cores respond once the processes of these nodes end whenever they are started, and which nodes are left out."""
+        async def work(host):
             for name in names:
-                network.nodes[name].words = ["/bin/false"]
-                network.nodes[name].kill()
-            while not any(it.done() for it in network.tasks) and len(network.left_out) < len(names):
+                host.nodes[name].words = ["/bin/false"]
+                host.nodes[name].kill()
+            while len(host.left_out) < len(names):
                 await asyncio.sleep(0.01)
-            for task in network.tasks:
-                if task.done():
-                    task.result()
-            signed = await asyncio.wait_for(asyncio.gather(*[clock.sign(imprint(number)) for number in range(20)]), 20)
-            return [clock.plan.leader(second) for _, second in signed], network.left_out
+            await asyncio.wait_for(sign_all(host, range(20)), 120)
+            return host.left_out
         with looked_often():
             return self.play(work, cores=cores, aggregators=aggregators)
 
     def test_a_node_that_does_not_start_is_left_out(self):
-        leaders, reasons = self.left_out("c0")
-        self.assertEqual((set(leaders), reasons), ({1}, {"c0": "c0 ended with status 1, 8 times in a row"}))
-        leaders, reasons = self.left_out("a0", "a1")
-        self.assertEqual((set(leaders), set(reasons)), ({1}, {"a0", "a1"}))
+        self.assertEqual(self.left_out("c0"), {"c0": "c0 ended with status 1, 8 times in a row"})
+        self.assertEqual(self.responders(), {"c1"})
+
+    def test_aggregators_that_do_not_start_are_left_out(self):
+        self.assertEqual(set(self.left_out("a0", "a1")), {"a0", "a1"})
+        self.assertEqual(self.responders(), {"c1"})
 
     def test_a_node_whose_file_cannot_be_opened_is_left_out(self):
         """As on a disk with a fault. Its process is not started: it could read what the disk does not have."""
@@ -206,28 +202,28 @@ class LeftOutTest(Clocked):
                 raise OSError(5, "Input/output error", path)
             real(path)
         with mock.patch.object(nodes.files, "drop_cache", drop_cache):
-            leaders, reasons = self.left_out("c0")
-        self.assertEqual(set(leaders), {1})
+            reasons = self.left_out("c0")
+        self.assertEqual(self.responders(), {"c1"})
         self.assertRegex(reasons["c0"], "^c0 is not started: .*c0.facts: Input/output error, 8 times in a row$")
 
     def test_a_node_that_can_be_started_again_is_left_out_no_more(self):
         """As one whose file another process held, which a host that was killed had started, on a disk that hung."""
-        async def work(network, clock):
-            said, node = [], network.nodes["c0"]
-            network.say, words, node.words = said.append, node.words, ["/bin/false"]
+        async def work(host):
+            node = host.nodes["c0"]
+            words, node.words = node.words, ["/bin/false"]
             node.kill()
-            while not network.left_out:
+            while not host.left_out:
                 await asyncio.sleep(0.01)
             await asyncio.sleep(0.5)
             node.words = words
             while not node.alive:
                 await asyncio.sleep(0.01)
-            self.assertEqual(network.left_out, {})
-            signed = await asyncio.gather(*[clock.sign(imprint(number), clock.next + number) for number in range(2, 8)])
-            return {clock.plan.leader(second) for _, second in signed}, said
-        with looked_often(), mock.patch.object(carriers, "AGAIN_SECONDS", 0.1):
-            leaders, said = self.play(work)
-        self.assertEqual(leaders, {0, 1})
+            self.assertEqual(host.left_out, {})
+            await asyncio.gather(*[host.desk.sign(imprint(number), host.rounds.next + number) for number in range(2, 8)])
+        said = stands.logged(self, "ksi_service.host")
+        with looked_often(), mock.patch.object(hosts, "AGAIN_SECONDS", 0.1):
+            self.play(work)
+        self.assertEqual(self.responders(), {"c0", "c1"})
         self.assertEqual(said, ["c0 ended with status 1, 8 times in a row: the service goes on without c0, and tries it again each minute", "c0 is there again"])
 
     def test_nodes_that_the_service_needs_stop_it(self):

@@ -24,9 +24,9 @@ class TornTest(unittest.TestCase):
     def test_what_was_acknowledged_stays(self):
         self.assertEqual([gate_behind(FILE, facts) for facts in range(3)], [18, 26, 34])
         for _ in range(200):
-            image = image_of(FILE, 1, self.dice)
+            image = image_of(FILE, 26, self.dice)
             self.assertEqual((image[:26], image[27:]), (FILE[:26], FILE[27:]))
-            self.assertTrue(image_of(FILE, 2, self.dice).startswith(FILE))
+            self.assertTrue(image_of(FILE, 34, self.dice).startswith(FILE))
 
     def test_what_is_left_of_a_write(self):
         content = bytes(range(1, 256)) * 9

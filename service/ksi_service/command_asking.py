@@ -1,0 +1,196 @@
+"""The commands that ask a service: sign, extend and publications. And verify, which asks the proved `ksi`."""
+import hashlib
+import http.client
+import os
+import ssl
+import time
+import urllib.error
+import urllib.request
+from typing import NamedTuple
+
+from . import client, extension, files, printing
+from .command_words import DEFAULT, WORDS, Failed, add, at_rest, rests
+from .elements import Malformed, parts_of, published_in
+from .newest import line_of
+from .proved import Refused, ksi
+from .publications import Publications
+
+
+class DoorOf(NamedTuple):
+    """The door of a service over a folder."""
+
+    address: str
+    process: int
+    scheme: str
+
+    @property
+    def url(self) -> str:
+        return f"{self.scheme}://{self.address}"
+
+
+def door(folder):
+    """The door of a folder's service."""
+    try:
+        with open(os.path.join(folder, "door"), encoding="ascii") as file:
+            address, number, *scheme = file.read().split()
+    except FileNotFoundError:
+        if files.is_held(folder):
+            raise Failed(f"{folder} is in use, and its door is not open: a service starts or stops, or no service runs and another command has the folder") from None
+        raise Failed(f"no service runs over {folder}: ksi-service start {folder}") from None
+    return DoorOf(address, int(number), *scheme or ["http"])
+
+
+def opener():
+    """Opens URLs of this machine: by no proxy, whatever the environment names. The folder says where the door is, so its certificate shows
+    nothing more."""
+    context = ssl.create_default_context()
+    context.check_hostname = False
+    context.verify_mode = ssl.CERT_NONE
+    return urllib.request.build_opener(urllib.request.ProxyHandler({}), urllib.request.HTTPSHandler(context=context))
+
+
+def ask(folder, path, content=None, kind="text/plain"):
+    """The body of the door's answer."""
+    it = door(folder)
+    if not files.is_held(folder):
+        # another program listens at that address now
+        raise Failed(f"no service runs over {folder}, and the last one was not stopped: ksi-service start {folder}")
+    request = urllib.request.Request(f"{it.url}{path}", data=content, headers={"Content-Type": kind, **client.key_header()})
+    try:
+        with opener().open(request, timeout=90) as answer:
+            return answer.read()
+    except urllib.error.HTTPError as error:
+        raise Failed(error.read().decode(errors="replace").strip()) from None
+    except (OSError, http.client.HTTPException) as error:
+        if files.is_held(folder):
+            raise Failed(f"the door at {it.address} does not answer: {getattr(error, 'reason', error)}") from None
+        raise Failed(f"no service runs over {folder}, and the last one was not stopped: ksi-service start {folder}") from None
+
+
+def digest_of(path):
+    """The SHA-256 of a file, in hex."""
+    digest = hashlib.sha256()
+    with open(path, "rb") as file:
+        while piece := file.read(1 << 20):
+            digest.update(piece)
+    return digest.hexdigest()
+
+
+def sign(words):
+    """Signs a file by its hash: the file does not leave its owner. An older signature shows more than a new one, so none is replaced."""
+    name = words.out or words.file + ".ksig"
+    if os.path.lexists(name):
+        raise Failed(f"{name} is there already, and is not replaced: -o NAME saves another signature")
+    content = signature_by(words, digest_of(words.file))
+    files.write(name, content)
+    print(f"signed {name}{time_of(content)}")
+
+
+def signature_by(words, imprint):
+    """The signature of a hash by the first door that gives one, or by the service over the folder."""
+    if words.door:
+        return client.sign(client.doors_of(words.door), imprint)
+    return ask(words.folder, "/sign", imprint.encode())
+
+
+def time_of(signature):
+    """The second of a signature, with its date."""
+    try:
+        second = parts_of(signature).second
+        return f": second {second}, {time.strftime('%Y-%m-%d %H:%M:%S', time.gmtime(second))} UTC"
+    except (Malformed, ValueError, OverflowError):
+        return ""
+
+
+def extend(words):
+    """By the service, or if it does not run, by a core's file: a folder whose plan is over still extends."""
+    with open(words.signature, "rb") as file:
+        signature = file.read()
+    if rests(words.folder):
+        content = extended_by_file(words.folder, signature)
+    else:
+        content = ask(words.folder, "/extend", signature, "application/octet-stream")
+    files.write(words.out or words.signature, content)
+    print(f"extended {words.out or words.signature}")
+
+
+def extended_by_file(folder, signature):
+    with at_rest(folder):
+        published = Publications(folder)
+        if published.last() is None:
+            raise Failed(f"nothing was published yet over {folder}")
+        try:
+            return extension.extend_stopped(folder, signature, published)
+        except extension.NotExtended as reason:
+            raise Failed(str(reason)) from None
+
+
+def publications(words):
+    if words.qr and not words.print:
+        raise Failed("--qr needs --print")
+    content = Publications(words.folder).content if rests(words.folder) else ask(words.folder, "/publications")
+    if content is None:
+        raise Failed(f"nothing was published yet over {words.folder}")
+    kept = files.content_of(words.out)
+    if kept is not None:
+        see_kept(words, kept, content)
+    files.write(words.out, content)
+    print(f"saved {words.out}")
+    last, root = published_in(content)[-1]
+    print(f"to be printed: {line_of(last, root)}")
+    if words.print:
+        print_last(words, last)
+
+
+def print_last(words, second):
+    """Prints the publication of a second as text for a newspaper, and saves the text as a QR code if one is asked for."""
+    text = printing.text(words.out, second)
+    if words.qr:
+        files.write(words.qr, printing.picture(text))
+        print(f"saved {words.qr}")
+    print(text, end="")
+
+
+def see_kept(words, kept, content):
+    """Raises Failed if a file that is to be replaced has publications that the new one lacks, as those of another plan."""
+    hint = "is not replaced: -o NAME saves these in another file"
+    try:
+        lost = set(published_in(kept)) - set(published_in(content))
+    except Malformed:
+        raise Failed(f"{words.out} is not a publications file, and {hint}") from None
+    if lost:
+        raise Failed(f"{words.out} has publications that {words.folder} does not have, and {hint}")
+
+
+def verify(words):
+    """By the proved `ksi verify`: its own line and status."""
+    if not os.path.exists(words.publications):
+        raise Failed(f"{words.publications}: no such file; `ksi-service publications` saves it")
+    if not os.path.exists(words.signature):
+        raise Failed(f"{words.signature}: no such file; `ksi-service sign {words.file}` makes one")
+    try:
+        print(ksi("verify", words.signature, digest_of(words.file), words.publications))
+    except Refused as refused:
+        hint = ""
+        if refused.line.startswith("refused V13 "):
+            hint = f" (the signature is not extended to a publication of that file: ksi-service extend {words.signature}, and ksi-service publications)"
+        raise Failed(f"{refused}{hint}") from None
+
+
+def add_asking(commands, name, does, told, *words, out=None):
+    """Adds a command that asks a service, and saves the answer."""
+    one = add(commands, name, does, told, *words)
+    one.add_argument("-o", dest="out", default=out, metavar="OUT", help="the file to save")
+    one.add_argument("--folder", default=DEFAULT, help=WORDS["folder"])
+    return one
+
+
+def add_commands(commands):
+    one = add_asking(commands, "sign", sign, "sign a file: FILE.ksig", "file")
+    one.add_argument("--door", metavar="HOST:PORT,..", help="the doors of a service's machines, each HOST:PORT or https://HOST:PORT: if one is away or busy, the next one is asked")
+    add_asking(commands, "extend", extend, "extend a signature to the last publication", "signature")
+    one = add_asking(commands, "publications", publications, "save the publications file", out="publications")
+    one.add_argument("--print", action="store_true", help="print the last publication as text for a newspaper")
+    one.add_argument("--qr", metavar="FILE.svg", help="with --print: save this text as a QR code")
+    one = add(commands, "verify", verify, "verify a file and its signature by the proved ksi", "file", "signature")
+    one.add_argument("publications", nargs="?", default="publications", help="the publications file (default: publications)")
