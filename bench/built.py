@@ -1,11 +1,11 @@
-"""What the scripts of this folder want before they begin: one that lacks something says so in one line, and ends with 2."""
+"""Checks for the programs and commands that a script of this folder needs. If one is missing, the script prints a line and exits with 2."""
 import os, shutil, sys
 
 CRATES = os.path.join(os.path.dirname(os.path.dirname(os.path.abspath(__file__))), "crates")
 
 
 def needs(*wanted):
-    """Ends the script where one of these is not there: programs by their paths, and commands."""
+    """Ends the script if one of these programs (by path) or commands is missing."""
     for path in map(os.path.normpath, wanted):
         if not shutil.which(path):
             name = os.path.basename(path)

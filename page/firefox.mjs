@@ -1,13 +1,14 @@
-// node --experimental-websocket firefox.mjs PAGE FOLDER [PICTURES]: the page in Firefox, by WebDriver BiDi: files in a link, and chosen.
+// node firefox.mjs PAGE FOLDER [PICTURES] tests the page in Firefox over WebDriver BiDi: files in a link and files
+// that are chosen.
 import fs from 'node:fs';
 import path from 'node:path';
-import { addressOf, begun, linked, wait } from './tab.mjs';
+import { addressOf, begun, linked, Socket, until } from './tab.mjs';
 
 const [page, folder, pictures] = process.argv.slice(2).map((p) => path.resolve(p));
 const name = ['firefox', 'firefox-esr'].find((it) => process.env.PATH.split(':').some((at) => fs.existsSync(path.join(at, it))));
 const { browser, close } = begun(name, (home) => ['--headless', '--no-remote', '--profile', home, '--remote-debugging-port', '0', '--width', '1000', '--height', '900', 'about:blank']);
 const address = await addressOf(browser);
-const socket = new WebSocket(`${address}/session`);
+const socket = new Socket(`${address}/session`);
 await new Promise((opened) => { socket.onopen = opened; });
 let count = 0;
 const waiting = new Map();
@@ -18,10 +19,15 @@ const { capabilities } = await ask('session.new', { capabilities: {} });
 const { contexts: [{ context }] } = await ask('browsingContext.getTree', {});
 const evaluate = async (expression) => (await ask('script.evaluate', { expression, target: { context }, awaitPromise: true })).result;
 const say = async () => (await evaluate("document.querySelector('#out strong').textContent + ' | ' + document.querySelectorAll('rect.ours, rect.good').length")).value;
-const wanted = async (text) => { let told; for (let k = 0; k < 100; k++) { told = await say().catch(() => ''); if (told === text) return; await wait(100); } console.log(`${told}, and not ${text}`); process.exitCode = 1; };
+const wanted = async (text) => {
+  let shown;
+  if (await until(async () => (shown = await say().catch(() => '')) === text)) return;
+  console.log(`${shown}, and not ${text}`);
+  process.exitCode = 1;
+};
 
 await ask('browsingContext.navigate', { context, url: linked(page, folder), wait: 'complete' });
-await wanted('Existed in second 2023-11-14T22:13:20Z | 34');
+await wanted('Recorded in second 2023-11-14T22:13:20Z | 34');
 if (pictures) {
   fs.mkdirSync(pictures, { recursive: true });
   fs.writeFileSync(path.join(pictures, 'firefox.png'), Buffer.from((await ask('browsingContext.captureScreenshot', { context })).data, 'base64'));
@@ -36,7 +42,7 @@ const choose = async (input, file) => {
 await choose('document', 'deed.txt');
 await choose('signature', 'deed.ksig');
 await choose('publications', 'publications.bin');
-await wanted('Existed in second 2023-11-14T22:13:20Z | 34');
+await wanted('Recorded in second 2023-11-14T22:13:20Z | 34');
 await choose('document', 'deed.ksig');
 await wanted('Not shown | 33');
 console.log(process.exitCode ? 'not as wanted' : `${capabilities.browserName} ${capabilities.browserVersion}: files in a link and files chosen are answered`);

@@ -1,17 +1,16 @@
-// node --experimental-websocket looks.mjs PAGE FOLDER [PICTURES]: looks at the page with the three files of FOLDER in windows of three
-// sizes, light and dark; goes through it by the keyboard alone; and reads what a screen reader is given. Pictures are left in PICTURES.
-// Needs Chromium.
+// node looks.mjs PAGE FOLDER [PICTURES] tests the look of the page with the three files of FOLDER: in windows of
+// three sizes, light and dark, with the keyboard alone, and in the accessibility tree. It saves screenshots to PICTURES. Needs Chromium.
 import fs from 'node:fs';
 import path from 'node:path';
-import { linked, open, wait } from './tab.mjs';
+import { linked, open, until } from './tab.mjs';
 
 const [page, folder, pictures] = process.argv.slice(2).map((p) => path.resolve(p));
-const { ask, told, value, close } = await open();
+const { ask, events, value, go, close } = await open();
 const wrong = (what) => { console.log(what); process.exitCode = 1; };
 const same = (what, is, wanted) => { if (JSON.stringify(is) !== JSON.stringify(wanted)) wrong(`${what}: ${JSON.stringify(is)}, and not ${JSON.stringify(wanted)}`); };
 
-// Of each element with a text of its own that is seen: how its ink stands out from what is behind it, where that is too little; and
-// what passes the window's edge without a way to scroll to it.
+// Lists visible texts with too little contrast to their background, and elements that cross the window's edge and cannot be scrolled
+// to.
 const LOOK = `(() => {
   const part = (c) => { c /= 255; return c <= 0.04045 ? c / 12.92 : ((c + 0.055) / 1.055) ** 2.4; };
   const light = ([r, g, b]) => 0.2126 * part(r) + 0.7152 * part(g) + 0.0722 * part(b);
@@ -33,9 +32,8 @@ const LOOK = `(() => {
 })()`;
 
 async function show() {
-  await ask('Page.navigate', { url: 'about:blank' });
-  await ask('Page.navigate', { url: linked(page, folder) });
-  for (let k = 0; k < 100 && !(await value("document.querySelectorAll('svg rect.good').length").catch(() => 0)); k++) await wait(100);
+  await go(linked(page, folder));
+  if (!await until(() => value("document.querySelectorAll('svg rect.good').length").catch(() => 0))) throw new Error('the page draws no accepted signature');
 }
 
 const sizes = [[360, 740], [768, 1024], [1280, 900]];
@@ -60,18 +58,17 @@ for (const [width, height] of sizes)
 const press = async (key, code, text) => { for (const type of ['keyDown', 'keyUp']) await ask('Input.dispatchKeyEvent', { type, key, code: key, windowsVirtualKeyCode: code, nativeVirtualKeyCode: code, ...(text && type === 'keyDown' ? { text } : {}) }); };
 await show();
 const order = [];
-for (let k = 0; k < 5; k++) {
+for (let k = 0; k < 6; k++) {
   await press('Tab', 9);
   order.push(await value("(document.activeElement.id || document.activeElement.tagName.toLowerCase())"));
   if (order[k] === 'summary') await press('Enter', 13, '\r');
 }
-same('tab order', order, ['document', 'signature', 'publications', 'summary', 'table']);
+same('tab order', order, ['document', 'signature', 'publications', 'mirror', 'summary', 'table']);
 same('Enter opens the table', await value("document.querySelector('details').open"), true);
 await ask('Page.setInterceptFileChooserDialog', { enabled: true });
 await value("document.querySelector('#document').focus()");
 await press('Enter', 13, '\r');
-for (let k = 0; k < 30 && !told.some((it) => it.method === 'Page.fileChooserOpened'); k++) await wait(100);
-same('Enter asks for a file', told.some((it) => it.method === 'Page.fileChooserOpened'), true);
+same('Enter asks for a file', await until(() => events.some((it) => it.method === 'Page.fileChooserOpened')), true);
 
 // ---- a screen reader
 const { nodes } = await ask('Accessibility.getFullAXTree');
@@ -80,11 +77,11 @@ const names = (role) => heard.filter((it) => it.role === role).map((it) => it.na
 same('headings', names('heading'), ['When did this document exist?']);
 same('main part', names('main').length, 1);
 const inputs = heard.filter((it) => it.is.focusable && /^\d · /.test(it.name)).map((it) => it.name.replace(/,.*/, ''));
-same('files', inputs.map((it) => it.slice(0, 5)), ['1 · D', '2 · S', '3 · P']);
+same('files', inputs.map((it) => it.slice(0, 5)), ['1 · D', '2 · S', '3 · P', '4 · A']);
 for (const it of heard) if (it.is.focusable && !it.name && !['RootWebArea', 'generic'].includes(it.role)) wrong(`a ${it.role} has no name`);
 same('live', heard.filter((it) => it.role === 'status').map((it) => it.is.live), ['polite']);
-same('picture', heard.filter((it) => it.role === 'image' || it.role === 'img').map((it) => it.name.slice(0, 21)), ['The way of hashes: 32']);
-same('columns', names('columnheader').slice(0, 5), ['Link', 'Hash from below', 'Other part stands', 'Other part', 'Join of both']);
+same('picture', heard.filter((it) => it.role === 'image' || it.role === 'img').map((it) => it.name.slice(0, 22)), ['The path of hashes: 32']);
+same('columns', names('columnheader').slice(0, 5), ['Link', 'Hash from below', 'Other part is', 'Other part', 'Join of both']);
 same('links', heard.filter((it) => it.role === 'rowheader' && /^\d+$/.test(it.name)).length, 32);
 console.log(process.exitCode ? 'not as wanted' : `${sizes.length} sizes of window, light and dark, the keyboard alone, ${heard.length} nodes of a screen reader's tree: as wanted`);
 await close();

@@ -1,6 +1,6 @@
-/* fuzz SECONDS SEED SAMPLES: calls every function on random and on mangled bytes, 200 inputs or more, each in a block of exactly its
- * size, so that a sanitizer or valgrind sees any byte that is read outside. With GUARD a block ends where a page begins that nobody
- * may touch, so that the processor sees it. Ends by abort where an answer contradicts itself. */
+/* fuzz SECONDS SEED SAMPLES calls every function on at least 200 random and mangled inputs. Each input is in a block of exactly its
+ * size, so a sanitizer or valgrind detects any read outside. With GUARD the block ends at an inaccessible page, so the processor
+ * detects it. Aborts if an answer contradicts itself. */
 #include <ksi.h>
 #include <string.h>
 #include <time.h>
@@ -62,7 +62,7 @@ static uint8_t *block(const uint8_t *bytes, size_t len) {
     return out;
 }
 
-/* A copy of bytes that is cut, stretched, overlaid, random, or has a few other bytes. */
+/* Copies bytes and cuts, stretches or overwrites them, replaces them by random ones, or changes a few of them. */
 static uint8_t *mangled(const uint8_t *bytes, size_t size, size_t *len) {
     static uint8_t room[70000];
     size_t n = size;
@@ -78,7 +78,7 @@ static uint8_t *mangled(const uint8_t *bytes, size_t size, size_t *len) {
     return block(room, n);
 }
 
-/* The hash in pieces is the hash of all. */
+/* The hash of the pieces is the hash of the whole. */
 static void hash(const uint8_t *bytes, size_t len) {
     struct ksi_hasher *hasher = taken(sizeof *hasher);
     uint8_t whole[32], pieces[32];
@@ -97,7 +97,31 @@ static void hash(const uint8_t *bytes, size_t len) {
     done(hasher);
 }
 
-/* A step is there exactly where its number is below another's that is there, and only of a signature. */
+/* A front is accepted only between its own roots, and each answer has the codes of its status. */
+static void fronts(const uint8_t *front, size_t len, const uint8_t *calendar, size_t calendar_len) {
+    struct ksi_answer *answer = taken(sizeof *answer);
+    uint8_t *old = block(calendar + calendar_len - 79, 32), *new = block(calendar + calendar_len - 32, 32);
+    int is_other = below(8) == 0;
+    if (is_other) old[below(32)] ^= (uint8_t)(1 + below(255));
+    memset(answer, 0xa5, sizeof *answer);
+    uint32_t status = ksi_check_front(front, len, 1700000000, old, 1700003599, new, answer);
+    if (status != answer->status || status > 3 || status == 2 || answer->second || answer->file != (status ? KSI_FRONT : 0) || answer->code > 5) abort();
+    if (status == 0 && (is_other || answer->code)) abort();
+    done(answer), done(old), done(new);
+}
+
+/* Only a signature has a second. An accepted one has the answer's. */
+static void seconds(const uint8_t *signature, size_t len, const struct ksi_answer *answer) {
+    uint64_t *second = taken(sizeof *second);
+    *second = 7;
+    uint32_t found = ksi_second(signature, len, second);
+    if ((found == 3) != (answer->status == KSI_MALFORMED && answer->file == KSI_SIGNATURE) || (found != 3 && found != 0)) abort();
+    if (found == 3 && *second != 7) abort();
+    if (answer->status == KSI_ACCEPTED && *second != answer->second) abort();
+    done(second);
+}
+
+/* Only a signature has steps, and their numbers have no gaps. */
 static void steps(const uint8_t *signature, size_t len, uint32_t status, uint32_t file) {
     struct ksi_step *step = taken(sizeof *step);
     size_t number = below(40);
@@ -109,12 +133,13 @@ static void steps(const uint8_t *signature, size_t len, uint32_t status, uint32_
 }
 
 int main(int count, char **words) {
-    static uint8_t signature[65539], publications[4096], document[4096], right[32];
+    static uint8_t signature[65539], publications[4096], document[4096], front[4096], calendar[4096], right[32];
     if (count != 4) return 2;
     state = strtoull(words[2], 0, 10) * 0x9e3779b97f4a7c15u + 1;
     size_t signature_len = load(words[3], "deed.ksig", signature, sizeof signature);
     size_t publications_len = load(words[3], "publications.bin", publications, sizeof publications);
     ksi_hash(document, load(words[3], "deed.txt", document, sizeof document), right);
+    size_t front_len = load(words[3], "front.bin", front, sizeof front), calendar_len = load(words[3], "calendar.bin", calendar, sizeof calendar);
     uint64_t calls = 0, seen[4][4][16] = {{{0}}};
     time_t end = time(0) + atol(words[1]);
     do
@@ -130,6 +155,13 @@ int main(int count, char **words) {
             uint32_t status = ksi_verify(one, s, digest, two, p, answer);
             if (status != answer->status || status > 3 || status == 2 || answer->code > 15 || answer->file > 3) abort();
             if (below(4) == 0) steps(one, s, status, answer->file);
+            seconds(one, s, answer);
+            if (below(4) == 0) {
+                size_t f;
+                uint8_t *three = below(8) ? mangled(front, front_len, &f) : block(front, f = front_len);
+                fronts(three, f, calendar, calendar_len);
+                done(three);
+            }
             seen[status][answer->file][answer->code]++;
             done(one), done(two), done(digest), done(answer);
         }

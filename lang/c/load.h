@@ -1,4 +1,4 @@
-/* Files as bytes, for the programs here that are not examples. */
+/* Reads files for the programs here that are not examples. */
 #ifndef LOAD_H
 #define LOAD_H
 

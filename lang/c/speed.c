@@ -1,4 +1,4 @@
-/* speed SAMPLES [CALLS]: nanoseconds a call. */
+/* speed SAMPLES [CALLS] prints the nanoseconds that a call takes. */
 #include <ksi.h>
 #include <string.h>
 #include <time.h>

@@ -1,4 +1,4 @@
-/* verify SIGNATURE DOCUMENT PUBLICATIONS: the second in which the document existed, or why none is proved. */
+/* verify SIGNATURE DOCUMENT PUBLICATIONS prints the second of an accepted signature, or the check that failed. */
 #include <ksi.h>
 #include <stdio.h>
 #include <stdlib.h>
@@ -6,8 +6,8 @@
 static uint8_t *load(const char *name, size_t *len) {
     FILE *file = fopen(name, "rb");
     size_t room = 65536, more;
-    uint8_t *bytes = malloc(room); /* never null, not even for no bytes */
-    *len = 0; /* a pipe tells no size, and some files a wrong one */
+    uint8_t *bytes = malloc(room); /* not null, even if the file is empty */
+    *len = 0; /* a pipe has no size, and some files report a wrong one */
     while (file && bytes && (more = fread(bytes + *len, 1, room - *len, file)) > 0)
         if ((*len += more) == room) bytes = realloc(bytes, room *= 2);
     if (!file || !bytes || ferror(file)) { perror(name); exit(4); }

@@ -1,5 +1,5 @@
-"""test.py SAMPLES: the module on the stored files, and its hash beside hashlib's."""
-import array, hashlib, os, subprocess, sys
+"""test.py SAMPLES runs the module on the stored files, and compares its hash with that of hashlib."""
+import array, glob, hashlib, json, os, subprocess, sys
 import ksi
 
 samples = sys.argv[1]
@@ -23,19 +23,31 @@ right, wrong = hashlib.sha256(document).digest(), hashlib.sha256(b"abc").digest(
 for size in [*range(0, 200), 4096, 100001]:
     assert ksi.digest(b"x" * size) == hashlib.sha256(b"x" * size).digest(), size
 assert ksi.file_digest(os.path.join(samples, "deed.ksig")) == hashlib.sha256(signature).digest()
-# a descriptor stays open, as whose it is
+# a descriptor stays open, since the caller owns it
 with open(os.path.join(samples, "deed.txt"), "rb") as file:
     assert ksi.file_digest(file.fileno()) == right and os.fstat(file.fileno()).st_size == len(document)
-# a descriptor that has no bytes yet is no file that ends
+# a descriptor without bytes yet is not at its end
 reads, writes = os.pipe()
 os.set_blocking(reads, False)
 refuses(BlockingIOError, ksi.file_digest, reads)
 
+# a hasher of pieces goes on after its digest was read, and a copy of it goes on by itself
+hasher = ksi.Hasher(document[:10])
+assert hasher.digest() == hashlib.sha256(document[:10]).digest()
+other = hasher.copy()
+hasher.update(memoryview(document)[10:])
+other.update(b"x" * 200)
+assert (hasher.digest(), other.digest()) == (right, hashlib.sha256(document[:10] + b"x" * 200).digest())
+with open(os.path.join(samples, "../../VERSION"), encoding="ascii") as file:
+    assert ksi.__version__ == file.read().strip(), ksi.__version__
+
 answer = ksi.verify(signature, right, publications)
 assert answer.accepted and answer.second == 1700000000 and str(answer.time) == "2023-11-14 22:13:20+00:00", answer
+assert answer.publication == ksi.Publication(0x6553FF0F, publications[-79:-47]) and str(answer.publication.time) == "2023-11-14 23:13:19+00:00", answer
 answer = ksi.verify(signature, wrong, publications)
+assert answer.publication is None and answer.time is None, answer
 assert (answer.name, answer.one, answer.other) == ("V1", right, wrong), answer
-# without its second and third publication, the file has none for the time of the calendar chain
+# without its second and third publications, the file has none for the time of the calendar chain
 answer = ksi.verify(signature, right, publications[:-94])
 assert answer.name == "V13" and answer.numbers[0] == 0x6553FF0F, answer
 answer = ksi.verify(publications, right, publications)
@@ -43,13 +55,44 @@ assert (answer.status, answer.file, answer.name, answer.numbers[0]) == (ksi.MALF
 answer = ksi.verify(signature, right, signature)
 assert (answer.status, answer.file, answer.name) == (ksi.MALFORMED, ksi.PUBLICATIONS, "Q1"), answer
 
-# without the library, or with another one, the words say how it is found
+# the second of a signature does not need a publication
+assert (ksi.second(signature), ksi.second(signature[:-1]), ksi.second(publications)) == (1700000000, None, None)
+
+# a consistency proof between both publications of a calendar
+front, calendar = read("front.bin"), read("calendar.bin")
+old, new = ksi.Publication(1700000000, calendar[-79:-47]), ksi.Publication(1700003599, calendar[-32:])
+answer = ksi.check_front(front, old, new)
+assert answer.accepted and answer.name == "accepted" and answer.publication is None, answer
+for bytes_, one, other, name, numbers in [
+    (front[:-35], old, new, "F1", (25, 24)), (front, new, old, "F5", (old.second, new.second)), (front, old._replace(root=new.root), new, "F2", (0, 0)),
+    (front, old, new._replace(root=old.root), "F3", (0, 0)), (signature, old, new, "C1", (0, 0)), (front[:-1], old, new, "C2", (len(front) - 35, 0)),
+]:
+    answer = ksi.check_front(bytes_, one, other)
+    assert (answer.accepted, answer.name, answer.numbers[:2]) == (False, name, numbers), answer
+refuses(ValueError, ksi.check_front, front, old._replace(root=b""), new)
+refuses(ValueError, ksi.check_front, front, old._replace(second=1 << 64), new)
+refuses(ValueError, ksi.check_front, front, old, new._replace(second=-1))
+refuses(TypeError, ksi.check_front, "text", old, new)
+refuses(TypeError, ksi.second, "text")
+
+# the test cases for all verifiers: an answer's name, and the numbers in the line that `ksi verify` prints
+for path in glob.glob(os.path.join(samples, "../../vectors/*.json")):
+    with open(path, encoding="ascii") as file:
+        cases = json.load(file)
+    for case in cases:
+        answer = ksi.verify(*(bytes.fromhex(case[it]) for it in ("signature", "hash", "publications")))
+        words = case["prints"].split()
+        numbers = [int(it) for it in words if it.isdecimal() and len(it) < 21]
+        assert answer.name == ("accepted" if answer.accepted else words[1] if words[0] == "refused" else words[2]), (case["name"], answer)
+        assert not answer.accepted or answer.second == numbers[0], (case["name"], answer)
+
+# if the library is missing or is another one, the error says how to name it
 for other in ["/absent", "libc.so.6"]:
     ran = subprocess.run([sys.executable, "-c", "import ksi"], env={**os.environ, "KSI_LIBRARY": other}, capture_output=True, text=True)
     last = ran.stderr.splitlines()[-1]
     assert last.startswith("ImportError: ") and other in last and "KSI_LIBRARY" in last, ran.stderr
 
-# whatever lends bytes is taken, and nothing else; a digest is counted in bytes
+# any object with a buffer is accepted, and nothing else; the length of a digest counts bytes
 assert ksi.verify(bytearray(signature), memoryview(right), array.array("B", publications)).accepted and ksi.digest(bytearray(b"abc")) == wrong
 
 
@@ -58,7 +101,7 @@ class Long(bytes):
         return 1 << 16
 
 
-# nothing is read behind the bytes, whatever a class of its own says of its length
+# nothing after the bytes is read, even if a subclass returns another length
 assert ksi.digest(Long(b"abc")) == wrong and ksi.verify(Long(signature), Long(right), Long(publications)).accepted
 assert len(list(ksi.steps(Long(signature)))) == 32
 
@@ -80,7 +123,7 @@ for other in [5, "text", None, Counted()]:
 for other in [b"", right[:31], right + b"x", array.array("I", range(32))]:
     refuses(ValueError, ksi.verify, signature, other, publications)
 
-# the links are those of the bytes at the call, whatever becomes of them before the first is asked for
+# the links are those of the bytes at the time of the call, even if these change before the first link is read
 lent = bytearray(signature)
 links = ksi.steps(lent)
 lent.clear()
