@@ -1,24 +1,28 @@
 """Compares a whole log with its store, by the proved programs."""
 import concurrent.futures
+import itertools
 import os
-from typing import Iterator, List, Optional
+from typing import Iterator, List, Optional, Tuple
 
 from ksi_service.elements import Malformed, parts_of
 
 from . import folders, parts, programs
 from .errors import Changed, LogError, counted, date
-from .lines import Log, recorded
+from .lines import Cut, Log, recorded
 from .store import Block, Store
 
 
 def faults_of(store: Store, log: Log, blocks: List[Block]) -> Iterator[str]:
     """A sentence for each block that is not that of the log's lines, by `ksi_blocks block`."""
+    def root_of(row: Tuple[Block, Cut]) -> bytes:
+        return programs.root_of(row[1].text, seeds[row[0].block]) if row[1].lines else b""
+
     workers = os.cpu_count() or 1
+    seeds = {it.block: store.needed_seed(it) for it in blocks}
+    rows = parts.beside(log, blocks)
     with concurrent.futures.ThreadPoolExecutor(workers) as pool:
-        for at in range(0, len(blocks), workers):
-            portion = [(it, log.take(it.first_byte, it.lines)) for it in blocks[at:at + workers]]
-            roots = pool.map(lambda row: programs.root_of(row[1].text, store.needed_seed(row[0])) if row[1].lines else b"", portion)
-            for (block, cut), root in zip(portion, roots):
+        while portion := list(itertools.islice(rows, workers)):
+            for (block, cut), root in zip(portion, pool.map(root_of, portion)):
                 if root != block.root:
                     yield parts.fault_of(store, block, cut)
 

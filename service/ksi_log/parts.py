@@ -1,7 +1,7 @@
 """Which part of a store a file is. A rotation changes names, so only the text decides: that of the first line, then that of all blocks."""
 import hashlib
 import os
-from typing import List, NamedTuple, Optional
+from typing import Iterator, List, NamedTuple, Optional, Tuple
 
 from .errors import Changed, LogError, counted
 from .leaves import differing, is_line
@@ -35,17 +35,20 @@ def begins_with(store: Store, part: Part, line: bytes) -> bool:
     return bool(block and seed and is_line(store.first_leaf(block.block), seed, 0, line))
 
 
-def is_same(store: Store, log: Log, block: Block) -> bool:
-    """Whether a log still has the lines of a block at their place."""
-    cut = log.take(block.first_byte, block.lines)
-    return len(cut.lines) == block.lines and digest_of(store.needed_seed(block), cut.text) == block.digest
+def beside(log: Log, blocks: List[Block]) -> Iterator[Tuple[Block, Cut]]:
+    """The blocks of a part, each with as many lines of a log, in order: a change of length in one block is none in the next."""
+    place = 0
+    for block in blocks:
+        cut = log.take(place, block.lines)
+        yield block, cut
+        place += cut.size
 
 
 def first_fault(store: Store, log: Log, part: Part) -> Optional[str]:
     """A sentence on the first signed line that the log lacks, or None if it has all of the part."""
-    for block in store.blocks(part.part):
-        if not is_same(store, log, block):
-            return fault_of(store, block, log.take(block.first_byte, block.lines))
+    for block, cut in beside(log, store.blocks(part.part)):
+        if len(cut.lines) != block.lines or digest_of(store.needed_seed(block), cut.text) != block.digest:
+            return fault_of(store, block, cut)
     return None
 
 

@@ -14,6 +14,7 @@ import stands
 from ksi_log import command, lines, programs
 
 COMMAND = os.path.join(os.path.dirname(stands.HERE), "ksi-log")
+SHARED = "/dev/shm"
 LONG = b"x" * (lines.LONGEST + 1)
 
 
@@ -35,10 +36,9 @@ def run_here(name, *words, keep):
 
 
 class Logged(unittest.TestCase):
-    is_alone = False
-
     def setUp(self):
-        folder = tempfile.TemporaryDirectory()
+        # in memory, since each change of a store is synced
+        folder = tempfile.TemporaryDirectory(dir=SHARED if os.access(SHARED, os.W_OK) else None)
         self.addCleanup(folder.cleanup)
         self.room = folder.name
         self.log = os.path.join(self.room, "app.log")
