@@ -1,11 +1,11 @@
 """Entries of the systemd journal as lines of a log of our own, read by cursor (docs/LOGS.md, "journald").
 
-Each entry is a line of JSON as journalctl prints it, with its cursor. The log is written by this program alone, so its last complete line says
+Each entry is a line of JSON with sorted keys, so the same entry gives the same line again. Its cursor is one of the keys. The log is written by this program alone, so its last complete line says
 where to go on. A line that was cut off by a crash is removed before that: it was never signed."""
 import json
 import os
 import subprocess
-from typing import List, Optional
+from typing import Any, Dict, List, Optional
 
 from .errors import LogError
 from .store import MODE, Store
@@ -30,6 +30,11 @@ def cut_end(path: str) -> Optional[bytes]:
     return tail[:end].splitlines()[-1] if end else None
 
 
+def line_of(entry: Dict[str, Any]) -> bytes:
+    """The line of an entry that journalctl printed as JSON, whose keys are in any order."""
+    return json.dumps(entry, sort_keys=True, ensure_ascii=False, separators=(",", ":")).encode() + b"\n"
+
+
 def last_cursor(store: Store, path: str) -> Optional[str]:
     """The cursor of the last entry: that of the log's last line, or, if it was rotated, the one that the store kept."""
     line = cut_end(path) if os.path.exists(path) else None
@@ -49,13 +54,14 @@ def append(store: Store, path: str, words: List[str]) -> int:
     with open(number, "ab") as file, subprocess.Popen(command, stdout=subprocess.PIPE, stderr=subprocess.PIPE) as process:
         assert process.stdout and process.stderr
         for line in process.stdout:
-            file.write(line)
-            entries, last = entries + 1, line
+            entry = json.loads(line)
+            file.write(line_of(entry))
+            entries, last = entries + 1, entry[CURSOR]
         reason = process.stderr.read().decode(errors="replace").strip()
         file.flush()
         os.fsync(file.fileno())
-    if isinstance(last, bytes):
-        store.keep_cursor(json.loads(last)[CURSOR])
+    if last:
+        store.keep_cursor(last)
     if process.returncode:
         raise LogError(f"journalctl exited with status {process.returncode}: {reason}")
     return entries

@@ -67,7 +67,9 @@ class Log:
     def take(self, first_byte: int, most: Optional[int] = None) -> Cut:
         """The next lines from a byte on, at most this many, or at most those of a block. Raises LogError if a compressed log is damaged."""
         try:
-            self.file.seek(first_byte)
+            # a compressed log is read from its first byte again at each step back
+            if self.file.tell() != first_byte:
+                self.file.seek(first_byte)
             return taken(self.file, first_byte, MOST_LINES if most is None else most)
         except (EOFError, lzma.LZMAError, gzip.BadGzipFile) as fault:
             raise LogError(f"{self.path} is damaged: {fault}") from None

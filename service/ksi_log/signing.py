@@ -17,7 +17,8 @@ QUIET_SECONDS = 60.0
 """The last line of a rotated log is signed without its line feed if nothing was written to it for this long."""
 AHEAD = 2
 """How many blocks are in memory for each processor."""
-COMPRESSED = (".gz", ".bz2", ".xz", ".zst")
+UNREAD = ".zst"
+"""The ending of compressed logs that Python cannot read."""
 
 
 class Signed(NamedTuple):
@@ -70,7 +71,7 @@ def cut_log(store: Store, path: str, closes: bool, is_new: bool) -> Signed:
             lines, end = lines + made.lines, made.first_byte + made.size
         left = log.take(end, 1)
         if number is not None:
-            store.seen(number, os.path.abspath(path), log.stat, closes and not left.lines)
+            store.seen(number, os.path.abspath(path), log.stat, not left.lines)
         return Signed(place.line, lines, bool(left.lines) and not left.is_ended)
 
 
@@ -99,24 +100,30 @@ def report(path: str, signed: Signed) -> str:
 
 
 def logs_of(words: List[str]) -> List[str]:
-    """The logs that the words of a logrotate script name: paths, or patterns as `sharedscripts` gives them, which match rotated files too."""
+    """The logs that the words of a logrotate script name: paths, or with `sharedscripts` patterns in one word, perhaps in quotes. A pattern matches
+    rotated files too."""
     found: List[str] = []
     for word in words:
-        for pattern in [word] if " " not in word.strip() or os.path.exists(word) else shlex.split(word):
-            pattern = pattern.strip()
-            if not glob.has_magic(pattern) or os.path.exists(pattern):
-                found.append(pattern)
-            else:
-                rotated = [it for ending in (".*", "-*") for it in glob.glob(pattern + ending) if ROTATED.search(it)]
-                found += sorted({*glob.glob(pattern), *(os.path.join(os.path.dirname(it), name_of(it)) for it in rotated)})
+        for pattern in [word] if is_log(word) else shlex.split(word):
+            found += [pattern] if is_log(pattern) or not glob.has_magic(pattern) else matching(pattern)
     return list(dict.fromkeys(found))
 
 
+def is_log(path: str) -> bool:
+    """Whether there is a log, or a rotated file of it."""
+    return os.path.exists(path) or os.path.isdir(os.path.dirname(path) or ".") and bool(rotated_of(path))
+
+
+def matching(pattern: str) -> List[str]:
+    rotated = [it for ending in (".*", "-*") for it in glob.glob(pattern + ending) if ROTATED.search(it)]
+    return sorted({*glob.glob(pattern), *(os.path.join(os.path.dirname(it), name_of(it)) for it in rotated)})
+
+
 def rotated_of(path: str) -> List[str]:
-    """The rotated files of a log that are not compressed, the oldest first."""
+    """The rotated files of a log that can be read, the oldest first."""
     folder, name = os.path.split(path)
     with os.scandir(folder or ".") as entries:
-        found = [it for it in entries if it.is_file() and it.name.startswith(name) and not it.name.endswith(COMPRESSED) and ROTATED.fullmatch(it.name[len(name):])]
+        found = [it for it in entries if it.is_file() and it.name.startswith(name) and not it.name.endswith(UNREAD) and ROTATED.fullmatch(it.name[len(name):])]
     return [it.path if folder else it.name for it in sorted(found, key=lambda it: it.stat().st_mtime_ns)]
 
 

@@ -1,4 +1,5 @@
 """`ksi-log sign`: logs that grow, that are rotated and that are changed, and processes that are killed."""
+import gzip
 import os
 import random
 import signal
@@ -110,10 +111,13 @@ class SigningTest(Logged):
         self.assertEqual([it[:3] for it in self.seconds()], [(1, 0, 2), (1, 2, 1), (2, 0, 1)])
 
     def test_rotated_files_that_are_known_are_not_read_again(self):
-        self.write(b"old\n", "app.log.2.gz")
+        self.write(b"old\n", "app.log.3.zst")
+        self.write(gzip.compress(b"older\n"), "app.log.2.gz")
         self.write(b"one\ntwo", "app.log.1")
         self.write(b"three\n")
-        self.assertIn("app.log.1: lines 1 to 1; its last line", self.sign("--rotated"))
+        out = self.sign("--rotated")
+        self.assertIn("app.log.2.gz: lines 1 to 1\n", out)
+        self.assertIn("app.log.1: lines 1 to 1; its last line", out)
         os.utime(self.path("app.log.1"), (1, 1))
         self.assertIn("app.log.1: lines 2 to 2\n", self.sign("--rotated"))
         with mock.patch.object(signing, "cut_log", side_effect=signing.cut_log) as cut:
@@ -124,8 +128,8 @@ class SigningTest(Logged):
         self.write(b"a\n", "a b.log")
         self.write(b"b\n", "c.log.1")
         self.write(b"none\n", "c.log.old")
-        patterns = f'{self.room}/*.log'
-        self.assertEqual(signing.logs_of([patterns + " "]), [self.path("a b.log"), self.path("c.log")])
+        patterns = f'"{self.room}/*.log" '
+        self.assertEqual(signing.logs_of([patterns]), [self.path("a b.log"), self.path("c.log")])
         self.assertEqual(signing.logs_of([self.path("a b.log")]), [self.path("a b.log")])
         self.assertEqual(signing.logs_of([f"{self.room}/d.log {self.room}/e.log "]), [self.path("d.log"), self.path("e.log")])
         out = self.run_log("sign", "--rotated", patterns)

@@ -1,0 +1,148 @@
+"""ksi-log with logrotate of Debian, by the lines of service/deploy/ksi-log.logrotate, and with a stored journal."""
+import json
+import lzma
+import os
+import shutil
+import subprocess
+import sys
+import unittest
+
+import stands
+from logged import COMMAND, Logged
+from ksi_log.store import Store
+
+DEPLOY = os.path.join(os.path.dirname(stands.HERE), "deploy")
+LOGROTATE = shutil.which("logrotate", path=os.environ.get("PATH", "") + ":/usr/sbin:/sbin")
+JOURNAL = os.path.join(stands.HERE, "data", "entries.journal.xz")
+ENTRIES = 12
+
+
+@unittest.skipUnless(LOGROTATE, "logrotate is not here")
+class RotationTest(Logged):
+    def setUp(self):
+        super().setUp()
+        os.mkdir(self.path("stores"))
+        self.program("bin/ksi-log", f'exec {sys.executable} {COMMAND} "$@"\n')
+        with open(os.path.join(DEPLOY, "ksi-log.logrotate"), encoding="utf-8") as file:
+            lines = file.read().replace("@PREFIX@", self.room).replace("/var/lib/ksi-log", self.path("stores"))
+        self.lines = "".join(it for it in lines.splitlines(True) if not it.startswith("#"))
+
+    def program(self, name, script):
+        os.makedirs(os.path.dirname(self.path(name)), exist_ok=True)
+        with open(self.path(name), "w", encoding="utf-8") as file:
+            file.write(f"#!/bin/sh\n{script}")
+        os.chmod(self.path(name), 0o755)
+
+    def rotate(self, pattern, words):
+        """Rotates logs now. Returns what logrotate and the scripts print."""
+        with open(self.path("conf"), "w", encoding="utf-8") as file:
+            file.write(f'"{pattern}" {{\nrotate 9\n{words}\n{self.lines}}}\n')
+        os.chmod(self.path("conf"), 0o644)
+        ran = subprocess.run([LOGROTATE, "-f", "-s", self.path("state"), self.path("conf")], env=self.environment, capture_output=True, text=True, check=False)
+        self.assertEqual(ran.returncode, 0, ran.stdout + ran.stderr)
+        return ran.stdout
+
+    def stored(self):
+        return ["--store", self.path("stores")]
+
+    def audited(self, name):
+        return self.run_log("audit", self.path(name), *self.stored())
+
+    def test_numbers_and_compression_a_day_later(self):
+        for day in range(3):
+            self.append(b"day %d\nevening\n" % day)
+            out = self.rotate(self.log, "compress\ndelaycompress\ncreate")
+            self.assertIn("app.log.1: lines 1 to 2\n", out)
+            self.append(b"late\n", "app.log.1")
+        self.assertEqual(sorted(it for it in os.listdir(self.room) if it.startswith("app.log")), ["app.log", "app.log.1", "app.log.2.gz", "app.log.3.gz"])
+        # each rotation signed the line that was late for the one before
+        self.assertIn("lines 1 to 3 are those that were signed (part 1 ", self.audited("app.log.3.gz"))
+        self.assertIn("lines 1 to 3 are those that were signed (part 2 ", self.audited("app.log.2.gz"))
+        self.assertIn("1 line after line 2 not signed yet", self.audited("app.log.1"))
+        self.calendar.publish()
+        self.assertIn("    day 0\n", self.proved(1, "app.log.3.gz", *self.stored()))
+        self.assertIn("    late\n", self.proved(3, "app.log.2.gz", *self.stored()))
+
+    def test_dates_and_one_script_for_all_logs(self):
+        for name in ("one two.log", "app.log"):
+            self.append(b"%s\n" % name.encode(), name)
+        self.rotate(f"{self.room}/*.log", "compress\nsharedscripts\nnocreate\ndateext\ndateformat -%Y%m%d")
+        names = [it for it in os.listdir(self.room) if it.endswith(".gz")]
+        self.assertEqual(len(names), 2)
+        for name in names:
+            self.assertIn("lines 1 to 1 are those that were signed (part 1 ", self.audited(name))
+        self.assertEqual(sorted(it for it in os.listdir(self.path("stores")) if it.endswith(".ksilog")), ["app.log.ksilog", "one two.log.ksilog"])
+
+    def test_a_log_that_is_copied_and_emptied(self):
+        self.append(b"one\n")
+        self.run_log("sign", self.log, *self.stored())
+        self.append(b"two\n")
+        self.assertIn("app.log.1: lines 2 to 2\n", self.rotate(self.log, "copytruncate"))
+        self.append(b"three\n")
+        self.assertIn("app.log: lines 1 to 1\n", self.run_log("sign", self.log, *self.stored()))
+        self.assertIn("(part 1 ", self.audited("app.log.1"))
+
+    def test_the_server_is_away(self):
+        self.append(b"one\n")
+        self.environment["KSI_LOG_DOOR"] = "127.0.0.1:1"
+        with self.assertRaisesRegex(AssertionError, "1 block of .* without a signature: no-answer"):
+            self.rotate(self.log, "create")
+        self.environment["KSI_LOG_DOOR"] = self.url
+        self.append(b"two\n")
+        self.assertIn("signed 2 blocks", self.rotate(self.log, "create"))
+
+
+@unittest.skipUnless(shutil.which("journalctl"), "journalctl is not here")
+class JournalTest(Logged):
+    def setUp(self):
+        super().setUp()
+        self.journal = self.path("made.journal")
+        with lzma.open(JOURNAL) as file:
+            self.write(file.read(), "made.journal")
+
+    def read(self, *words):
+        return self.run_log("journal", self.log, "--file", self.journal, *words)
+
+    def lines(self):
+        with open(self.log, "rb") as file:
+            return file.read().splitlines(True)
+
+    def test_entries_are_read_once(self):
+        out = self.read()
+        self.assertIn("app.log: 12 new entries of the journal\n", out)
+        self.assertIn("app.log: lines 1 to 12\n", out)
+        entries = [json.loads(it) for it in self.lines()]
+        self.assertEqual([it["MESSAGE"][:20] for it in entries][:4], ["Started ssh.service.", "Accepted publickey f", "pam_unix(sshd:sessio", "two\nlines"])
+        self.assertIn(": 0 new entries", self.read())
+        # after a rotation the store knows the last entry
+        os.rename(self.log, f"{self.log}.1")
+        self.assertIn(": 0 new entries", self.read())
+        self.calendar.publish()
+        self.assertIn("Accepted publickey for archivar", self.proved(2, "app.log.1"))
+        self.assertIn("A line with its length and SHA-256 is in its place", self.proved(7, "app.log.1"))
+
+    def test_a_crash_loses_and_doubles_no_entry(self):
+        self.read()
+        whole = self.lines()
+        self.assertEqual(len(whole), ENTRIES)
+        os.remove(f"{self.log}.ksilog")
+        for count in (0, 5, 11):
+            self.write(b"".join(whole[:count]) + whole[count][:70])
+            self.assertIn(f": {ENTRIES - count} new entries", self.read())
+            self.assertEqual(self.lines(), whole)
+        with Store(f"{self.log}.ksilog") as store:
+            self.assertEqual(sum(it.lines for it in store.blocks()), ENTRIES)
+
+    def test_some_entries(self):
+        self.assertIn(": 0 new entries", self.read("--unit", "cron.service"))
+        self.assertIn(": 12 new entries", self.read("--unit", "ssh.service", "--since", "2000-01-01"))
+
+    def test_files_that_are_none(self):
+        self.write(b"a line of another program\n")
+        self.assertIn("is not written by `ksi-log journal`", self.refused("journal", self.log, "--file", self.journal))
+        os.remove(self.log)
+        self.assertIn("journalctl exited with status 1", self.refused("journal", self.log, "--file", self.path("absent")))
+
+
+if __name__ == "__main__":
+    unittest.main()
