@@ -75,11 +75,14 @@ class Log:
             raise LogError(f"{self.path} is damaged: {fault}") from None
 
     def cuts(self, first_byte: int) -> Iterator[Cut]:
-        """The blocks of the log from a byte on."""
+        """The blocks of the log from a byte on. Lines that are written meanwhile begin no further block."""
         cut = self.take(first_byte)
         while cut.lines:
             yield cut
-            cut = self.take(cut.first_byte + cut.size)
+            end = cut.first_byte + cut.size
+            if not self.is_compressed and end >= self.stat.st_size:
+                return
+            cut = self.take(end)
 
     def line(self, first_byte: int) -> bytes:
         """The line that begins at a byte, as it is in the log, without its line feed."""

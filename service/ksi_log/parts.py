@@ -117,6 +117,8 @@ def chosen(store: Store, log: Log, number: Optional[int]) -> Part:
         if found is None:
             raise LogError(f"{store.path} has no part {number}")
         return found
+    if not log.take(0, 1).lines:
+        raise LogError(f"{log.path} is empty: --part names the part that it should be")
     alike = beginning_like(store, log)
     same = next((it for it in alike if first_fault(store, log, it) is None), None)
     own = [it for it in parts if is_file_of(it, log.stat)]

@@ -160,6 +160,9 @@ class KeepingTest(Logged):
             self.assertIn("line 20 differs from the one that was signed (part 1", reason)
             self.assertIn("line 77 differs from the one that was signed", reason)
             self.assertEqual(reason.count("differs"), 2)
+            self.write(b"")
+            self.assertIn("is empty: --part names the part", self.refused("audit", self.log))
+            self.assertIn("the log ends after line 0, and lines up to 16 were signed", self.refused("audit", self.log, "--part", "1"))
             self.write(TEXT.replace(b"line 20 of the log\n", b""))
             self.assertIn("line 20 differs from the one that was signed, and 12 more lines of lines 17 to 32", self.refused("audit", self.log))
 

@@ -1,24 +1,29 @@
-"""ksi-log with logrotate of Debian, by the lines of service/deploy/ksi-log.logrotate, and with a stored journal."""
+"""ksi-log with logrotate, rsyslog and nginx of Debian, by the lines of service/deploy/ksi-log.logrotate, and with a stored journal."""
+import concurrent.futures
 import json
 import lzma
 import os
+import re
 import shutil
+import socket
 import subprocess
 import sys
+import time
 import unittest
 
 import stands
 from logged import COMMAND, Logged
+from ksi_log.lines import Log
 from ksi_log.store import Store
 
 DEPLOY = os.path.join(os.path.dirname(stands.HERE), "deploy")
-LOGROTATE = shutil.which("logrotate", path=os.environ.get("PATH", "") + ":/usr/sbin:/sbin")
+LOGROTATE, RSYSLOG, NGINX = (shutil.which(it, path=os.environ.get("PATH", "") + ":/usr/sbin:/sbin") for it in ("logrotate", "rsyslogd", "nginx"))
 JOURNAL = os.path.join(stands.HERE, "data", "entries.journal.xz")
 ENTRIES = 12
 
 
 @unittest.skipUnless(LOGROTATE, "logrotate is not here")
-class RotationTest(Logged):
+class Rotated(Logged):
     def setUp(self):
         super().setUp()
         os.mkdir(self.path("stores"))
@@ -48,6 +53,8 @@ class RotationTest(Logged):
     def audited(self, name):
         return self.run_log("audit", self.path(name), *self.stored())
 
+
+class RotationTest(Rotated):
     def test_numbers_and_compression_a_day_later(self):
         for day in range(3):
             self.append(b"day %d\nevening\n" % day)
@@ -90,6 +97,92 @@ class RotationTest(Logged):
         self.environment["KSI_LOG_DOOR"] = self.url
         self.append(b"two\n")
         self.assertIn("signed 2 blocks", self.rotate(self.log, "create"))
+
+
+class WritersTest(Rotated):
+    """Programs that go on writing while their logs are rotated."""
+
+    def begin(self, *words):
+        """A process that ends with the test."""
+        process = subprocess.Popen(words, stdout=subprocess.DEVNULL, stderr=subprocess.PIPE)
+        self.addCleanup(process.stderr.close)
+        self.addCleanup(process.wait)
+        self.addCleanup(process.terminate)
+        return process
+
+    def wait_for(self, holds):
+        end = time.monotonic() + 20
+        while not holds():
+            self.assertLess(time.monotonic(), end)
+            time.sleep(0.02)
+
+    def connected(self, kind):
+        client = socket.socket(socket.AF_UNIX, kind)
+        self.addCleanup(client.close)
+        self.wait_for(lambda: client.connect_ex(self.path("socket")) == 0)
+        return client
+
+    def write_while_rotated(self, send, script, name):
+        """Sends numbers until three rotations are over, then signs the rest. Each number is in one line of one file, and all files are as signed."""
+        self.lines = self.lines.replace("postrotate\n", f"postrotate\n{script}\n")
+        sent = 0
+        for _ in range(3):
+            self.wait_for(lambda: os.path.exists(self.path(name)))
+            sent = self.send_until(send, sent, lambda: self.numbers(name))
+            with concurrent.futures.ThreadPoolExecutor(1) as pool:
+                rotating = pool.submit(self.rotate, self.path(name), "compress\ndelaycompress\nmissingok\nnocreate")
+                sent = self.send_until(send, sent, rotating.done)
+                rotating.result()
+        files = [f"{name}.3.gz", f"{name}.2.gz", f"{name}.1", name]
+        self.wait_for(lambda: sum(len(self.numbers(it)) for it in files) == sent)
+        self.assertEqual([number for it in files for number in self.numbers(it)], list(range(sent)))
+        self.run_log("sign", "--rotated", self.path(name), *self.stored())
+        for it in files:
+            out = self.audited(it)
+            self.assertIn("are those that were signed", out)
+            self.assertNotIn("not signed yet", out)
+
+    def send_until(self, send, sent, holds):
+        """Sends numbers from one on, at least ten, until something holds. Returns the next one."""
+        least = sent + 10
+        while sent < least or not holds():
+            send(sent)
+            sent += 1
+            time.sleep(0.005)
+        return sent
+
+    def numbers(self, name):
+        """The numbers in a log, by their mark."""
+        with Log(self.path(name)) as log:
+            return [int(it) for cut in log.cuts(0) for it in re.findall(rb"number-([0-9]+)", cut.text)]
+
+    @unittest.skipUnless(RSYSLOG, "rsyslogd is not here")
+    def test_rsyslog(self):
+        with open(self.path("rsyslog.conf"), "w", encoding="utf-8") as file:
+            file.write(f'''module(load="imuxsock" SysSock.Use="off")
+input(type="imuxsock" Socket="{self.path("socket")}" RateLimit.Interval="0")
+action(type="omfile" file="{self.path("syslog")}")
+''')
+        self.begin(RSYSLOG, "-n", "-f", self.path("rsyslog.conf"), "-i", self.path("pid"))
+        client = self.connected(socket.SOCK_DGRAM)
+        client.send(b"<13>app: the first one")
+        self.write_while_rotated(lambda number: client.send(b"<13>app: number-%d" % number), f"kill -HUP $(cat {self.path('pid')})", "syslog")
+
+    @unittest.skipUnless(NGINX, "nginx is not here")
+    def test_nginx(self):
+        with open(self.path("nginx.conf"), "w", encoding="utf-8") as file:
+            file.write(f'''daemon off; pid {self.path("pid")}; error_log {self.path("error.log")};
+{"user root;" if os.geteuid() == 0 else ""}
+events {{ }}
+http {{ access_log {self.path("access.log")}; server {{ listen unix:{self.path("socket")}; location / {{ return 204; }} }} }}
+''')
+        self.begin(NGINX, "-p", self.room, "-c", self.path("nginx.conf"))
+        client = self.connected(socket.SOCK_STREAM)
+
+        def send(number):
+            client.send(b"GET /number-%d HTTP/1.1\r\nHost: x\r\n\r\n" % number)
+            client.recv(4096)
+        self.write_while_rotated(send, f"kill -USR1 $(cat {self.path('pid')})", "access.log")
 
 
 @unittest.skipUnless(shutil.which("journalctl"), "journalctl is not here")
