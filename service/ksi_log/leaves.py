@@ -1,9 +1,14 @@
-"""The leaves of a block and the tree over them, by hashlib (docs/FORMATS.md, "Masked blocks of lines").
+"""The leaves of a block and the tree over them, by Python's SHA-256 (docs/FORMATS.md, "Masked blocks of lines").
 
 A store has the leaves, so a line is proved without the others. What these functions compute is given out only after the proved programs
 accepted it: `ksi_blocks block` has the root, and `ksi checkline` the proof."""
-import hashlib
 from typing import Iterable, List
+
+try:
+    # for a text of 100 bytes that of OpenSSL 3 takes 1.4 times as long
+    from _sha256 import sha256
+except ImportError:
+    from hashlib import sha256
 
 from ksi_service.elements import element, number
 
@@ -14,7 +19,7 @@ MAGIC_PROOF = b"KSILINE1"
 
 
 def digest_of(*parts: bytes) -> bytes:
-    return hashlib.sha256(b"".join(parts)).digest()
+    return sha256(b"".join(parts)).digest()
 
 
 def mask_after(before: bytes, seed: bytes) -> bytes:
@@ -29,10 +34,10 @@ def leaf_of(mask: bytes, line: bytes) -> bytes:
 
 def leaves_of(lines: Iterable[bytes], seed: bytes) -> bytes:
     """The leaves of a block, one after another."""
-    sha, leaf, leaves = hashlib.sha256, ZERO, []
+    leaf, leaves = ZERO, []
     for line in lines:
-        mask = sha(b"\1" + leaf + seed).digest()
-        leaf = sha(b"\1" + mask + b"\1" + sha(line).digest() + b"\1").digest()
+        mask = sha256(b"\1" + leaf + seed).digest()
+        leaf = sha256(b"\1" + mask + b"\1" + sha256(line).digest() + b"\1").digest()
         leaves.append(leaf)
     return b"".join(leaves)
 
@@ -58,7 +63,7 @@ def rows_of(leaves: bytes) -> List[List[bytes]]:
     rows = [row]
     while len(row) > 1:
         level = bytes([len(rows) + 1])
-        joined = [digest_of(b"\1", row[at], b"\1", row[at + 1], level) for at in range(0, len(row) - 1, 2)]
+        joined = [sha256(b"\1" + left + b"\1" + right + level).digest() for left, right in zip(row[::2], row[1::2])]
         row = joined + row[len(joined) * 2:]
         rows.append(row)
     return rows

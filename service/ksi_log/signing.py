@@ -5,9 +5,9 @@ import glob
 import os
 import shlex
 import time
-from typing import Deque, Iterator, List, NamedTuple
+from typing import Callable, Deque, Iterator, List, NamedTuple
 
-from . import leaves, parts, programs, seeds
+from . import hashing, parts, programs, seeds
 from .doors import Doors
 from .errors import LogError, counted, date
 from .lines import Cut, Log
@@ -17,6 +17,8 @@ QUIET_SECONDS = 60.0
 """The last line of a rotated log is signed without its line feed if nothing was written to it for this long."""
 AHEAD = 2
 """How many blocks are in memory for each processor."""
+LONG_BLOCK = 10_000
+"""Blocks of this many lines are hashed in processes of their own."""
 UNREAD = ".zst"
 """The ending of compressed logs that Python cannot read."""
 
@@ -30,12 +32,12 @@ class Signed(NamedTuple):
     """Whether the last line has no line feed, and was left for later."""
 
 
-def made_of(cut: Cut, first_line: int) -> Made:
+def made_of(cut: Cut, first_line: int, hashes: Callable[[bytes, bytes], List[bytes]]) -> Made:
     """A block with a new seed. The proved program and hashlib have to agree on its root."""
     seed, text = seeds.new(), cut.text
-    content = leaves.leaves_of(cut.lines, seed)
+    own, content = hashes(text, seed)
     root = programs.root_of(text, seed)
-    if root != leaves.root_of(content):
+    if root != own:
         raise LogError(f"ksi_blocks returns another root of a block than its leaves have: {root.hex()}")
     return Made(first_line, len(cut.lines), cut.first_byte, cut.size, cut.is_ended, root, parts.digest_of(seed, text), seed, content)
 
@@ -44,7 +46,7 @@ def blocks_of(log: Log, place: parts.Place, closes: bool) -> Iterator[concurrent
     """The blocks of a log from a place on, in their order, made by several threads."""
     waiting: Deque[concurrent.futures.Future] = collections.deque()
     workers = os.cpu_count() or 1
-    with concurrent.futures.ThreadPoolExecutor(workers) as pool:
+    with hashing.Hashers(workers) as hashers, concurrent.futures.ThreadPoolExecutor(workers) as pool:
         line = place.line
         for cut in log.cuts(place.byte):
             if not cut.is_ended and not closes:
@@ -52,7 +54,8 @@ def blocks_of(log: Log, place: parts.Place, closes: bool) -> Iterator[concurrent
                 cut = log.take(cut.first_byte, len(cut.lines) - 1)
             if not cut.lines:
                 break
-            waiting.append(pool.submit(made_of, cut, line))
+            # a short block is not worth a process
+            waiting.append(pool.submit(made_of, cut, line, hashers.hash if len(cut.lines) >= LONG_BLOCK else hashing.hashed))
             line += len(cut.lines)
             if len(waiting) > AHEAD * workers:
                 yield waiting.popleft()

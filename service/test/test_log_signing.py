@@ -60,7 +60,7 @@ class SigningTest(Logged):
         self.assertIn("file is not a database", self.refused("sign", self.path("other.log")))
 
     def test_several_blocks_in_one_request(self):
-        with mock.patch.object(lines, "MOST_LINES", 7):
+        with mock.patch.object(lines, "MOST_LINES", 7), mock.patch.object(signing, "LONG_BLOCK", 7):
             self.write(b"".join(b"%d\n" % it for it in range(100)))
             self.assertIn("signed 15 blocks", self.sign())
         self.assertEqual(self.calendar.requests, 1)

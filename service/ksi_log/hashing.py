@@ -1,0 +1,99 @@
+"""Hashes blocks in processes of their own, since an interpreter hashes short texts on one processor only.
+
+A process reads blocks from its standard input until that ends, so it does not outlive a program that is killed."""
+import os
+import queue
+import struct
+import subprocess
+import sys
+from typing import BinaryIO, List, Optional
+
+from .errors import LogError
+from .leaves import leaves_of, root_of
+
+HEAD = struct.Struct(">II")
+"""The sizes of the seed and of the text of a block. The answer has the size of the root and that of the leaves."""
+TOP = os.path.dirname(os.path.dirname(os.path.abspath(__file__)))
+
+
+class Hasher:
+    """A process that computes leaves and roots."""
+
+    def __init__(self) -> None:
+        self._process = subprocess.Popen([sys.executable, "-m", __spec__.name], cwd=TOP, stdin=subprocess.PIPE, stdout=subprocess.PIPE)
+
+    def hash(self, text: bytes, seed: bytes) -> List[bytes]:
+        """The root and the leaves of a block. Raises LogError if the process ended."""
+        assert self._process.stdin and self._process.stdout
+        try:
+            put(self._process.stdin, seed, text)
+        except BrokenPipeError:
+            pass
+        found = get(self._process.stdout)
+        if found is None:
+            raise LogError("a process that hashes ended")
+        return found
+
+    def close(self) -> None:
+        assert self._process.stdin and self._process.stdout
+        self._process.stdin.close()
+        self._process.stdout.close()
+        self._process.wait()
+
+
+class Hashers:
+    """Some processes, each of them used by one thread at a time. They are started when they are needed."""
+
+    def __init__(self, most: int) -> None:
+        self._free: "queue.SimpleQueue[Optional[Hasher]]" = queue.SimpleQueue()
+        self._most = most
+        for _ in range(most):
+            self._free.put(None)
+
+    def __enter__(self) -> "Hashers":
+        return self
+
+    def __exit__(self, *_: object) -> None:
+        for it in (self._free.get() for _ in range(self._most)):
+            if it:
+                it.close()
+
+    def hash(self, text: bytes, seed: bytes) -> List[bytes]:
+        it = self._free.get()
+        try:
+            it = it or Hasher()
+            return it.hash(text, seed)
+        finally:
+            self._free.put(it)
+
+
+def put(file: BinaryIO, one: bytes, other: bytes) -> None:
+    file.write(HEAD.pack(len(one), len(other)) + one)
+    file.write(other)
+    file.flush()
+
+
+def get(file: BinaryIO) -> Optional[List[bytes]]:
+    """Two texts, or None at the end."""
+    head = file.read(HEAD.size)
+    if len(head) < HEAD.size:
+        return None
+    one, other = HEAD.unpack(head)
+    found = [file.read(one), file.read(other)]
+    return found if [len(it) for it in found] == [one, other] else None
+
+
+def hashed(text: bytes, seed: bytes) -> List[bytes]:
+    """The root and the leaves of a block, in this process."""
+    leaves = leaves_of(text[:-1].split(b"\n"), seed)
+    return [root_of(leaves), leaves]
+
+
+def main() -> None:
+    while (found := get(sys.stdin.buffer)) is not None:
+        seed, text = found
+        put(sys.stdout.buffer, *hashed(text, seed))
+
+
+if __name__ == "__main__":
+    main()
