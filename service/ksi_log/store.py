@@ -42,7 +42,7 @@ class Part(NamedTuple):
 
     part: int
     path: str
-    """Where its file was when it was signed last."""
+    """The path of its file when it was signed last."""
     device: int
     inode: int
     size: int
@@ -178,7 +178,7 @@ class Store:
         return [Part(*row[:-1], bool(row[-1])) for row in self._base.execute(f"SELECT {PART} FROM parts ORDER BY part DESC")]
 
     def seen(self, part: int, path: str, stat: os.stat_result, is_whole: bool) -> None:
-        """Keeps where the file of a part is, and whether all of it was signed."""
+        """Keeps the place of the file of a part, and whether all of it was signed."""
         with self.change():
             self._base.execute("UPDATE parts SET path = ?, device = ?, inode = ?, size = ?, changed = ?, is_whole = ? WHERE part = ?",
                                (path, stat.st_dev, stat.st_ino, stat.st_size, stat.st_mtime_ns, is_whole, part))

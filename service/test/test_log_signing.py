@@ -100,6 +100,21 @@ class SigningTest(Logged):
             self.assertIn(f"written late on day {4 - number}", self.proved(3, f"app.log.{number}"))
             self.assertIn(f"lines 1 to 3 are those that were signed (part {5 - number} ", self.run_log("audit", f"{self.log}.{number}"))
 
+    def test_a_new_log_that_begins_like_one_that_was_compressed(self):
+        self.write(b"header\none\n")
+        self.sign()
+        os.remove(self.log)
+        self.write(gzip.compress(b"header\none\n"), "app.log.1.gz")
+        self.write(b"header\ntwo\n")
+        self.assertIn("app.log: lines 1 to 2\n", self.sign("--rotated"))
+        self.assertEqual([it[:3] for it in self.seconds()], [(1, 0, 2), (2, 0, 2)])
+        # moved away, it looks like a changed one
+        os.remove(self.path("app.log.1.gz"))
+        os.remove(self.log)
+        self.write(b"header\nthree\n")
+        self.assertIn("line 2 differs", self.refused("sign", self.log))
+        self.assertIn("lines 1 to 2\n", self.sign("--new"))
+
     def test_a_log_that_is_copied_and_emptied(self):
         self.write(b"one\ntwo\n")
         self.sign()
