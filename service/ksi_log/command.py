@@ -46,16 +46,15 @@ def sign_one(words: argparse.Namespace, log: str) -> None:
         # no store is made for a log that cannot be read
         with Log(log):
             pass
-    make_folder(words.store)
+    make_folder(path)
     with held(path), Store(path, words.seeds) as store, Doors(words.door) as doors:
         for line in signing.sign(store, doors, log, rotated=words.rotated, closed=words.closed, is_new=words.new):
             print(line)
 
 
-def make_folder(path: Optional[str]) -> None:
-    """Makes the folder of stores if it is missing. Their seeds are nobody else's."""
-    if path:
-        os.makedirs(path, mode=0o700, exist_ok=True)
+def make_folder(store: str) -> None:
+    """Makes the folder of a store if it is missing."""
+    os.makedirs(os.path.dirname(store) or ".", mode=0o700, exist_ok=True)
 
 
 def prove(words: argparse.Namespace) -> None:
@@ -111,7 +110,7 @@ def move_seeds(words: argparse.Namespace) -> None:
 def read_journal(words: argparse.Namespace) -> None:
     path = path_of(words.log, words.store, words.name)
     matches = [f"--{name}={value}" for name in ("file", "directory", "unit", "since") for value in getattr(words, name) or []]
-    make_folder(words.store)
+    make_folder(path)
     with held(path), Store(path, words.seeds) as store, Doors(words.door) as doors:
         entries = journal.append(store, words.log, matches)
         print(f"{words.log}: {entries} new entries of the journal")
@@ -120,8 +119,8 @@ def read_journal(words: argparse.Namespace) -> None:
 
 
 def with_store(one: argparse.ArgumentParser, *, needs_seeds: bool = True) -> None:
-    one.add_argument("--store", metavar="FOLDER", default=STORE, help="the folder of the stores, if not that of the log")
-    one.add_argument("--name", metavar="NAME", help="the name of the store without .ksilog, if not that of the log without the number or date of a rotation")
+    one.add_argument("--store", metavar="FOLDER", default=STORE, help="the folder of the stores, if they are not next to the logs: the store of /var/log/app.log is FOLDER/var/log/app.log.ksilog")
+    one.add_argument("--name", metavar="NAME", help="the path of the store in the folder, without .ksilog, if the log has another path or name now")
     if needs_seeds:
         one.add_argument("--seeds", metavar="FILE", help="the file of seeds, if they are not in the store")
 
@@ -180,7 +179,7 @@ def add_keeping(commands) -> None:
     with_store(one)
     one = commands.add_parser("extend", help="extend the signatures of a log, or of all logs of a folder, to the last publication")
     one.add_argument("log", nargs="?", help="the log")
-    one.add_argument("--all", action="store_true", help="all stores of the folder that --store names")
+    one.add_argument("--all", action="store_true", help="all stores of the folder that --store names, and of those below")
     one.set_defaults(does=extend)
     with_store(one, needs_seeds=False)
     with_door(one)

@@ -1,5 +1,4 @@
 """Extends the signatures of stores to publications, so that proofs need no service any more."""
-import glob
 import os
 from typing import Iterator, List
 
@@ -13,8 +12,8 @@ PORTION = 100
 
 
 def stores_in(folder: str) -> List[str]:
-    """The stores of a folder. Raises LogError if there are none."""
-    found = sorted(glob.glob(os.path.join(glob.escape(folder), f"*{SUFFIX}")))
+    """The stores of a folder and of those below. Raises LogError if there are none."""
+    found = sorted(os.path.join(at, it) for at, _, names in os.walk(folder) for it in names if it.endswith(SUFFIX))
     if not found:
         raise LogError(f"{folder} has no store: --store names the folder")
     return found

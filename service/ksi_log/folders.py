@@ -1,7 +1,7 @@
 """The folder of a proof: the files for a reader who has no store (docs/FORMATS.md, "Folders of proofs")."""
 import json
 import os
-import shutil
+import tempfile
 from typing import Any, Dict, NamedTuple, Optional
 
 from ksi_service import files
@@ -51,9 +51,8 @@ def write(path: str, folder: Folder) -> None:
     """Writes a folder that is complete or missing. Raises LogError if the path exists."""
     if os.path.lexists(path):
         raise LogError(f"{path} is there already, and is not replaced")
-    made = f"{path.rstrip('/')}.new"
-    shutil.rmtree(made, ignore_errors=True)
-    os.mkdir(made)
+    above = os.path.dirname(os.path.abspath(path))
+    made = tempfile.mkdtemp(prefix=f".{os.path.basename(os.path.abspath(path))}-", dir=above)
     marked = recorded(folder.line)
     contents = {LINE: folder.line, PROOF: folder.proof, SIGNATURE: folder.signature, PUBLICATIONS: folder.publications,
                 ABOUT: (json.dumps(folder.about, indent=1) + "\n").encode(), README: readme(folder).encode(),
@@ -65,7 +64,7 @@ def write(path: str, folder: Folder) -> None:
             os.fsync(file.fileno())
     files.sync_folder(made)
     os.rename(made, path)
-    files.sync_folder(os.path.dirname(os.path.abspath(path)))
+    files.sync_folder(above)
 
 
 def loaded(path: str) -> Folder:

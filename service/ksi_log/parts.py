@@ -63,7 +63,7 @@ def fault_of(store: Store, block: Block, cut: Cut) -> str:
 
 def next_place(store: Store, log: Log, part: Part) -> Place:
     """Where a part goes on in its log."""
-    last = store.blocks(part.part)[-1]
+    last = store.last_block(part.part)
     # the last line may have got its line feed since
     return Place(last.end_line, last.end_byte + (not last.is_ended and log.has_feed_at(last.end_byte)))
 

@@ -32,7 +32,7 @@ def by_number(store: Store, log: Log, number: int, part: Optional[int]) -> Found
         line = block and line_at(store, log, block, number - 1 - block.first_line)
         if block and line is not None:
             return Found(it, block, number - 1 - block.first_line, line)
-    most = max(store.blocks(it.part)[-1].end_line for it in alike)
+    most = max(store.last_block(it.part).end_line for it in alike)
     raise LogError(f"line {number} of {log.path} is not the one that was signed: `ksi-log audit` has more" if number <= most else f"{log.path} is signed up to line {most}, and not at line {number}")
 
 
@@ -118,7 +118,7 @@ def prove(store: Store, doors: Doors, path: str, out: str, found: Found) -> str:
     if verdict.line != f"line accepted {found.block.second}":
         raise LogError(f"ksi checkline does not accept the proof: {verdict.line}")
     number = found.block.first_line + found.place + 1
-    about = {"log": os.path.abspath(path), "part": found.part.part, "line": number, "lines_of_block": [found.block.first_line + 1, found.block.end_line],
+    about = {"log": os.path.basename(path), "part": found.part.part, "line": number, "lines_of_block": [found.block.first_line + 1, found.block.end_line],
              "signed": found.block.second, "root_of_block": found.block.root.hex()}
     folders.write(out, folders.Folder(found.line, proof, signature, publications, about))
     return f"proved line {number} of {path}: {out}, second {date(found.block.second or 0)}"

@@ -146,10 +146,12 @@ def sign(store: Store, doors: Doors, path: str, *, rotated: bool = False, closed
     reasons: List[str] = []
     for it in [*(rotated_of(path) if rotated else []), path]:
         is_rotated = it != path
-        if is_rotated and is_known(store, it) or rotated and not os.path.exists(it):
-            continue
         try:
-            yield report(it, cut_log(store, it, is_quiet(it) if is_rotated else closed, is_new))
+            if not (is_rotated and is_known(store, it)):
+                yield report(it, cut_log(store, it, is_quiet(it) if is_rotated else closed, is_new))
+        except FileNotFoundError as reason:
+            # a rotation may leave no log until its program writes again
+            reasons += [] if rotated else [f"{it}: {reason.strerror}"]
         except LogError as reason:
             reasons.append(str(reason))
     try:

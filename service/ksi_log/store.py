@@ -110,8 +110,12 @@ def name_of(path: str) -> str:
 
 
 def path_of(log: str, folder: Optional[str], name: Optional[str]) -> str:
-    """The store of a log: in a folder, or next to the log."""
-    return os.path.join(folder or os.path.dirname(log), (name or name_of(log)) + SUFFIX)
+    """The store of a log: next to it, or in a folder at the log's whole path, since logs of several programs have one name. With a name it is
+    at that name in the folder, or next to the log."""
+    above = os.path.dirname(log)
+    if folder:
+        above = folder if name else os.path.join(folder, os.path.abspath(above).lstrip("/"))
+    return os.path.join(above, (name or name_of(log)) + SUFFIX)
 
 
 class Store:
@@ -190,8 +194,11 @@ class Store:
 
     def block_with(self, part: int, line: int) -> Optional[Block]:
         """The block of a line of a part, counted from 0."""
-        found = [it for it in self.blocks(part) if it.first_line <= line < it.end_line]
-        return found[0] if found else None
+        found = self.blocks(part, f"first_line = (SELECT MAX(first_line) FROM blocks WHERE part = {part} AND first_line <= {line})")
+        return found[0] if found and line < found[0].end_line else None
+
+    def last_block(self, part: int) -> Block:
+        return self.blocks(part, f"first_line = (SELECT MAX(first_line) FROM blocks WHERE part = {part})")[0]
 
     def add(self, part: Optional[int], path: str, stat: os.stat_result, made: Made) -> int:
         """Adds a block to a part, or to a new part if there is none yet, and returns the part. The block's seed is on the disk before it."""

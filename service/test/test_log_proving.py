@@ -44,7 +44,7 @@ class ProvingTest(Logged):
         root = self.calendar.published[0][1]
         out = self.run_log("verify", self.folder)
         for text in ("existed in second 1700000000 (2023-11-14 22:13:20 UTC)", "    line 43 of the log\n", f"publication of second 1700000000 (2023-11-14 22:13:20 UTC) with the root\n    {root}",
-                     f"line 43 of {self.log}. Nothing here shows that"):
+                     f"line 43 of app.log. Nothing here shows that"):
             self.assertIn(text, out)
         self.assertIn(f"root   {root}", self.content("README.txt").decode())
         self.assertEqual(json.loads(self.content("about.json"))["lines_of_block"], [33, 48])

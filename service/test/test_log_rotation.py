@@ -78,7 +78,8 @@ class RotationTest(Rotated):
         self.assertEqual(len(names), 2)
         for name in names:
             self.assertIn("lines 1 to 1 are those that were signed (part 1 ", self.audited(name))
-        self.assertEqual(sorted(it for it in os.listdir(self.path("stores")) if it.endswith(".ksilog")), ["app.log.ksilog", "one two.log.ksilog"])
+        found = [os.path.join(at, it) for at, _, names in os.walk(self.path("stores")) for it in names if it.endswith(".ksilog")]
+        self.assertEqual(sorted(found), [f"{self.path('stores')}{self.room}/{it}.ksilog" for it in ("app.log", "one two.log")])
 
     def test_a_log_that_is_copied_and_emptied(self):
         self.append(b"one\n")

@@ -151,6 +151,18 @@ class SigningTest(Logged):
         self.assertIn("a b.log: lines 1 to 1\n", out)
         self.assertIn("c.log.1: lines 1 to 1\n", out)
 
+    def test_logs_of_one_name(self):
+        stores = ["--store", self.path("stores")]
+        for name in ("nginx", "apache"):
+            os.mkdir(self.path(name))
+            self.write(b"header\n" + name.encode() + b"\n", f"{name}/access.log")
+            self.assertIn("lines 1 to 2\n", self.run_log("sign", self.path(f"{name}/access.log"), *stores))
+        self.calendar.publish()
+        self.assertEqual(self.run_log("extend", "--all", *stores).count("1 signature extended"), 2)
+        os.rename(self.path("nginx/access.log"), self.path("copy"))
+        self.assertIn("is missing", self.refused("audit", self.path("copy"), *stores))
+        self.assertIn("lines 1 to 2 are those", self.run_log("audit", self.path("copy"), *stores, "--name", f"{self.room[1:]}/nginx/access.log"))
+
     def test_names_of_logs(self):
         for name, log in (("app.log", "app.log"), ("app.log.1", "app.log"), ("app.log.12.gz", "app.log"), ("app.log-20261201", "app.log"), ("app.log-20261201-1764579600.xz", "app.log"),
                           ("app.2.log", "app.2.log"), ("app.log.old", "app.log.old"), ("syslog", "syslog"), (".1", ".1")):
