@@ -21,8 +21,8 @@ OUT = out
 PROGRAM = crates/ksi/out/ksi
 # prints files in words: installed if it is built
 VIEWER = crates/ksi_show/out/ksi_show
-# the programs of ksi-service, of mirrors, of archives and of ksi-log: installed if they are built
-NODES = ksi_serve ksi_retrace ksi_roots ksi_print ksi_blocks
+# the programs of ksi-service, of mirrors and of archives: installed if they are built
+NODES = ksi_serve ksi_retrace ksi_roots ksi_print
 # the programs with a manual page and completions
 NAMES = ksi ksi-show ksi-service ksi-log
 # the kit's folder, with the libraries for a static program

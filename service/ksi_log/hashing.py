@@ -6,13 +6,14 @@ import queue
 import struct
 import subprocess
 import sys
-from typing import BinaryIO, List, Optional
+from typing import IO, List, Optional
 
 from .errors import LogError
 from .leaves import leaves_of, root_of
 
 HEAD = struct.Struct(">II")
 """The sizes of the seed and of the text of a block. The answer has the size of the root and that of the leaves."""
+MODULE = "ksi_log.hashing"
 TOP = os.path.dirname(os.path.dirname(os.path.abspath(__file__)))
 
 
@@ -20,7 +21,7 @@ class Hasher:
     """A process that computes leaves and roots."""
 
     def __init__(self) -> None:
-        self._process = subprocess.Popen([sys.executable, "-m", __spec__.name], cwd=TOP, stdin=subprocess.PIPE, stdout=subprocess.PIPE)
+        self._process = subprocess.Popen([sys.executable, "-m", MODULE], cwd=TOP, stdin=subprocess.PIPE, stdout=subprocess.PIPE)
 
     def hash(self, text: bytes, seed: bytes) -> List[bytes]:
         """The root and the leaves of a block. Raises LogError if the process ended."""
@@ -67,13 +68,13 @@ class Hashers:
             self._free.put(it)
 
 
-def put(file: BinaryIO, one: bytes, other: bytes) -> None:
+def put(file: IO[bytes], one: bytes, other: bytes) -> None:
     file.write(HEAD.pack(len(one), len(other)) + one)
     file.write(other)
     file.flush()
 
 
-def get(file: BinaryIO) -> Optional[List[bytes]]:
+def get(file: IO[bytes]) -> Optional[List[bytes]]:
     """Two texts, or None at the end."""
     head = file.read(HEAD.size)
     if len(head) < HEAD.size:

@@ -8,7 +8,8 @@ import subprocess
 from typing import Any, Dict, List, Optional
 
 from .errors import LogError
-from .store import MODE, Store
+from .seeds import MODE
+from .store import Store
 
 PIECE = 1 << 16
 CURSOR = "__CURSOR"

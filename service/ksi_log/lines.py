@@ -5,7 +5,7 @@ import hashlib
 import lzma
 import os
 import stat
-from typing import BinaryIO, Iterator, List, NamedTuple, Optional, Tuple
+from typing import Any, BinaryIO, Callable, Dict, Iterator, List, NamedTuple, Optional, Tuple
 
 from .errors import LogError
 
@@ -18,7 +18,7 @@ LONGEST = 8_000
 MARK = b"ksi-log replaced "
 """The first bytes of a line that replaces another one. A line of the log that begins with them is replaced too."""
 PIECE = 1 << 20
-OPENERS = {b"\x1f\x8b": gzip.open, b"BZh": bz2.open, b"\xfd7zXZ\0": lzma.open}
+OPENERS: Dict[bytes, Callable[[Any], Any]] = {b"\x1f\x8b": gzip.open, b"BZh": bz2.open, b"\xfd7zXZ\0": lzma.open}
 """How compressed logs are read, by their first bytes."""
 
 
@@ -54,7 +54,7 @@ class Log:
         head = plain.peek(8)[:8]
         opened = next((it for magic, it in OPENERS.items() if head.startswith(magic)), None)
         self.is_compressed = opened is not None
-        self.file: BinaryIO = opened(plain) if opened else plain
+        self.file: Any = opened(plain) if opened else plain
         self._plain = plain
 
     def __enter__(self) -> "Log":
@@ -89,6 +89,12 @@ class Log:
         cut = self.take(first_byte, 1)
         self.file.seek(first_byte)
         return self.file.read(cut.size - cut.is_ended)
+
+    def text(self, first_byte: int, size: int) -> Optional[bytes]:
+        """Bytes of the log as they are, which is the text of their lines in a block, unless it is None: a line may be replaced there."""
+        self.file.seek(first_byte)
+        found = self.file.read(size)
+        return found if MARK not in found else None
 
     def has_feed_at(self, place: int) -> bool:
         """Whether there is a line feed at a byte."""

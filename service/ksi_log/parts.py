@@ -46,9 +46,17 @@ def beside(log: Log, blocks: List[Block]) -> Iterator[Tuple[Block, Cut]]:
 
 def first_fault(store: Store, log: Log, part: Part) -> Optional[str]:
     """A sentence on the first signed line that the log lacks, or None if it has all of the part."""
-    for block, cut in beside(log, store.blocks(part.part)):
-        if len(cut.lines) != block.lines or digest_of(store.needed_seed(block), cut.text) != block.digest:
+    place = 0
+    for block in store.blocks(part.part):
+        seed, text = store.needed_seed(block), log.text(place, block.size)
+        if text is not None and digest_of(seed, text) == block.digest:
+            place += block.size
+            continue
+        # line by line: a long line is replaced, or the last one has no line feed, or lines were changed
+        cut = log.take(place, block.lines)
+        if len(cut.lines) != block.lines or digest_of(seed, cut.text) != block.digest:
             return fault_of(store, block, cut)
+        place += cut.size
     return None
 
 

@@ -42,9 +42,9 @@ def made_of(cut: Cut, first_line: int, hashes: Callable[[bytes, bytes], List[byt
     return Made(first_line, len(cut.lines), cut.first_byte, cut.size, cut.is_ended, root, parts.digest_of(seed, text), seed, content)
 
 
-def blocks_of(log: Log, place: parts.Place, closes: bool) -> Iterator[concurrent.futures.Future]:
+def blocks_of(log: Log, place: parts.Place, closes: bool) -> Iterator["concurrent.futures.Future[Made]"]:
     """The blocks of a log from a place on, in their order, made by several threads."""
-    waiting: Deque[concurrent.futures.Future] = collections.deque()
+    waiting: "Deque[concurrent.futures.Future[Made]]" = collections.deque()
     workers = os.cpu_count() or 1
     with hashing.Hashers(workers) as hashers, concurrent.futures.ThreadPoolExecutor(workers) as pool:
         line = place.line

@@ -8,7 +8,7 @@ import os
 import re
 import sqlite3
 import time
-from typing import Iterator, List, NamedTuple, Optional, Tuple
+from typing import Iterator, List, NamedTuple, Optional, Sequence, Tuple
 
 from ksi_service import files
 
@@ -224,7 +224,7 @@ class Store:
     def signature(self, block: int) -> Optional[bytes]:
         return self._base.execute("SELECT signature FROM blocks WHERE block = ?", (block,)).fetchone()[0]
 
-    def sign(self, rows: List[Tuple[int, bytes, int, Optional[int]]]) -> None:
+    def sign(self, rows: Sequence[Tuple[int, bytes, int, Optional[int]]]) -> None:
         """Keeps signatures: the number of each block, its signature, its second, and that of the publication if it is extended."""
         with self.change():
             self._base.executemany("UPDATE blocks SET signature = ?2, second = ?3, publication = ?4 WHERE block = ?1", rows)

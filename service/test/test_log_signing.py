@@ -84,6 +84,13 @@ class SigningTest(Logged):
         self.assertIn("lines 1 to 4\n", self.sign("--new"))
         self.assertEqual(self.seconds()[-1][:3], (2, 0, 4))
 
+    def test_a_long_line_is_not_replaced_by_its_mark(self):
+        self.write(b"one\n" + LONG + b"\n")
+        self.sign()
+        self.assertIn("nothing new after line 2\n", self.sign())
+        self.write(b"one\n" + lines.recorded(LONG) + b"\n")
+        self.assertIn("line 2 differs", self.refused("sign", self.log))
+
     def test_rotated_logs_by_other_names(self):
         for day in range(4):
             self.write(b"header\nday %d\n" % day)
