@@ -1,13 +1,13 @@
 """Compares a whole log with its store, by the proved programs."""
 import concurrent.futures
 import itertools
-import os
 from typing import Iterator, List, Optional, Tuple
 
 from ksi_service.elements import Malformed, parts_of
 
 from . import folders, parts, programs
 from .errors import Changed, LogError, counted, date
+from .hashing import WORKERS
 from .lines import Cut, Log, recorded
 from .store import Block, Store
 
@@ -17,13 +17,14 @@ def faults_of(store: Store, log: Log, blocks: List[Block]) -> Iterator[str]:
     def root_of(row: Tuple[Block, Cut]) -> bytes:
         return programs.root_of(row[1].text, seeds[row[0].block]) if row[1].lines else b""
 
-    workers = os.cpu_count() or 1
     seeds = {it.block: store.needed_seed(it) for it in blocks}
     rows = parts.beside(log, blocks)
-    with concurrent.futures.ThreadPoolExecutor(workers) as pool:
-        while portion := list(itertools.islice(rows, workers)):
+    with concurrent.futures.ThreadPoolExecutor(WORKERS) as pool:
+        while portion := list(itertools.islice(rows, WORKERS)):
             for (block, cut), root in zip(portion, pool.map(root_of, portion)):
-                if root != block.root:
+                if not parts.has_leaves(store, block):
+                    yield f"the leaves of lines {block.first_line + 1} to {block.end_line} in the store are damaged"
+                elif root != block.root:
                     yield parts.fault_of(store, block, cut)
 
 

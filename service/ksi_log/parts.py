@@ -4,7 +4,7 @@ import os
 from typing import Iterator, List, NamedTuple, Optional, Tuple
 
 from .errors import Changed, LogError, counted
-from .leaves import differing, is_line
+from .leaves import differing, is_line, root_of
 from .lines import Cut, Log
 from .store import Block, Part, Store
 
@@ -58,6 +58,11 @@ def first_fault(store: Store, log: Log, part: Part) -> Optional[str]:
             return fault_of(store, block, cut)
         place += cut.size
     return None
+
+
+def has_leaves(store: Store, block: Block) -> bool:
+    """Whether the leaves of a block lead to its root."""
+    return root_of(store.leaves(block.block)) == block.root
 
 
 def fault_of(store: Store, block: Block, cut: Cut) -> str:

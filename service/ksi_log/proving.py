@@ -42,7 +42,11 @@ def line_at(store: Store, log: Log, block: Block, place: int) -> Optional[bytes]
     if len(before.lines) < place:
         return None
     line = log.line(before.first_byte + before.size)
-    return line if leaves.is_line(store.leaves(block.block), store.needed_seed(block), place, recorded(line)) else None
+    if leaves.is_line(store.leaves(block.block), store.needed_seed(block), place, recorded(line)):
+        return line
+    if not parts.has_leaves(store, block):
+        raise LogError(f"the leaves of lines {block.first_line + 1} to {block.end_line} in {store.path} are damaged: only a copy of the store has the proof")
+    return None
 
 
 def containing(log: Log, text: bytes) -> int:

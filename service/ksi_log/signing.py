@@ -16,7 +16,7 @@ from .store import ROTATED, Made, Store, name_of
 QUIET_SECONDS = 60.0
 """The last line of a rotated log is signed without its line feed if nothing was written to it for this long."""
 AHEAD = 2
-"""How many blocks are in memory for each processor."""
+"""How many blocks are in memory for each one that is hashed."""
 LONG_BLOCK = 10_000
 """Blocks of this many lines are hashed in processes of their own."""
 UNREAD = ".zst"
@@ -45,8 +45,7 @@ def made_of(cut: Cut, first_line: int, hashes: Callable[[bytes, bytes], List[byt
 def blocks_of(log: Log, place: parts.Place, closes: bool) -> Iterator["concurrent.futures.Future[Made]"]:
     """The blocks of a log from a place on, in their order, made by several threads."""
     waiting: "Deque[concurrent.futures.Future[Made]]" = collections.deque()
-    workers = os.cpu_count() or 1
-    with hashing.Hashers(workers) as hashers, concurrent.futures.ThreadPoolExecutor(workers) as pool:
+    with hashing.Hashers() as hashers, concurrent.futures.ThreadPoolExecutor(hashing.WORKERS) as pool:
         line = place.line
         for cut in log.cuts(place.byte):
             if not cut.is_ended and not closes:
@@ -57,7 +56,7 @@ def blocks_of(log: Log, place: parts.Place, closes: bool) -> Iterator["concurren
             # a short block is not worth a process
             waiting.append(pool.submit(made_of, cut, line, hashers.hash if len(cut.lines) >= LONG_BLOCK else hashing.hashed))
             line += len(cut.lines)
-            if len(waiting) > AHEAD * workers:
+            if len(waiting) > AHEAD * hashing.WORKERS:
                 yield waiting.popleft()
         yield from waiting
 

@@ -10,7 +10,7 @@ from unittest import mock
 
 import logged
 import stand_in_lines
-from ksi_log import leaves, lines, programs
+from ksi_log import hashing, leaves, lines, programs
 from ksi_log.errors import LogError
 from ksi_log.lines import LONGEST, Log, mark, recorded
 
@@ -89,6 +89,17 @@ class LeavesTest(unittest.TestCase):
         self.assertEqual(leaves.differing(content, SEED, [*block[:3], b"other", *block[4:8], b""]), [3, 8])
         self.assertEqual(leaves.differing(content, SEED, block[:4]), [])
         self.assertTrue(all(leaves.is_line(content, SEED, place, block[place]) for place in range(9)))
+
+    def test_blocks_are_hashed_by_processes(self):
+        block = [b"line %d" % it for it in range(100)]
+        text, content = b"\n".join(block) + b"\n", leaves.leaves_of(block, SEED)
+        with hashing.Hashers() as hashers:
+            self.assertEqual([hashers.hash(text, SEED) for _ in range(3)], [[leaves.root_of(content), content]] * 3)
+        hasher = hashing.Hasher()
+        self.addCleanup(hasher.close)
+        hasher._process.kill()
+        with self.assertRaisesRegex(LogError, "a process that hashes ended"):
+            hasher.hash(text * 10_000, SEED)
 
     def test_the_proved_program_agrees(self):
         why = logged.missing()

@@ -175,6 +175,15 @@ class KeepingTest(Logged):
             store.keep_publications(publications_file([(self.calendar.last, "ab" * 32)]))
         self.assertIn("the signature of lines 1 to 100 is not accepted: refused V14", self.refused("audit", self.log))
 
+    def test_leaves_that_are_damaged(self):
+        self.write(TEXT)
+        self.run_log("sign", self.log)
+        self.calendar.publish()
+        with sqlite3.connect(self.path("app.log.ksilog")) as base:
+            base.execute("UPDATE leaves SET content = CAST(zeroblob(32) || substr(content, 33) AS BLOB)")
+        self.assertIn("the leaves of lines 1 to 100 in the store are damaged", self.refused("audit", self.log, "--part", "1"))
+        self.assertIn("are damaged: only a copy of the store", self.refused("prove", self.log, "-n", "2", "--part", "1", "-o", self.path("F")))
+
     def test_audit_says_of_which_line_a_folder_is(self):
         self.write(TEXT)
         self.run_log("sign", self.log)
