@@ -2,11 +2,13 @@
 import gzip
 import json
 import os
+import re
 import shutil
 import sqlite3
 import unittest
 from unittest import mock
 
+import stands
 from ksi_log import lines, programs
 from ksi_log.store import Store
 from ksi_service.elements import publications_file
@@ -141,6 +143,22 @@ class ProvingTest(Logged):
         with mock.patch.object(programs, "checked_line", return_value=programs.Ran("refused V1 a b", 1)):
             self.assertIn("does not accept the proof", self.refused("prove", self.log, "-n", "1", "-o", self.folder))
         self.assertFalse(os.path.exists(self.folder))
+
+
+class PageTest(Logged):
+    def test_the_commands_of_the_page(self):
+        """Those before the first section of docs/LOGS.md, in their order."""
+        with open(os.path.join(os.path.dirname(os.path.dirname(stands.HERE)), "docs", "LOGS.md"), encoding="utf-8") as file:
+            page = file.read()
+        self.write(b"".join(b"request %d\n" % it for it in range(1, 5001)))
+        commands = re.findall(r"(?m)^    ksi-log ([^#\n]*)", page.partition("\n## ")[0])
+        self.assertEqual([it.split()[0] for it in commands], ["sign", "extend", "prove", "verify", "audit"])
+        for it in commands:
+            words = it.replace("/var/log/app.log", self.log).replace("court", self.path("court")).split()
+            out = self.run_log(*words)
+            self.calendar.publish()
+            if words[0] == "verify":
+                self.assertIn("    request 4321\n", out)
 
 
 class KeepingTest(Logged):
