@@ -88,7 +88,7 @@ def audit(words: argparse.Namespace) -> None:
 
 def status(words: argparse.Namespace) -> None:
     with store_of(words) as store:
-        for line in reporting.status(store):
+        for line in reporting.status(store, words.blocks):
             print(line)
 
 
@@ -176,6 +176,7 @@ def add_keeping(commands) -> None:
     one.add_argument("--proof", metavar="FOLDER", help="say which line of the log a folder that prove wrote is of")
     with_store(one)
     one = add(commands, "status", status, "list the parts of a log, and the lines that are not signed yet")
+    one.add_argument("--blocks", action="store_true", help="list each block with its lines and times")
     with_store(one)
     one = commands.add_parser("extend", help="extend the signatures of a log, or of all logs of a folder, to the last publication")
     one.add_argument("log", nargs="?", help="the log")

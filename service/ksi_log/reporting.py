@@ -5,17 +5,19 @@ from typing import Iterator
 from . import parts
 from .errors import LogError, counted, date
 from .lines import Log
-from .store import Part, Store
+from .store import Block, Part, Store
 
 
-def status(store: Store) -> Iterator[str]:
-    """Yields lines on each part, the oldest first, and on the lines that are in no block yet."""
+def status(store: Store, lists_blocks: bool) -> Iterator[str]:
+    """Yields lines on each part, the oldest first, on its blocks if they are to be listed, and on the lines that are in no block yet."""
     found = store.parts()[::-1]
     blocks = store.blocks()
     lines = sum(it.lines for it in blocks)
     yield f"{store.path}: {counted(len(found), 'part')}, {counted(len(blocks), 'block')}, {counted(lines, 'line')}"
     for part in found:
         yield from status_of(store, part)
+        if lists_blocks:
+            yield from map(line_of, store.blocks(part.part))
 
 
 def status_of(store: Store, part: Part) -> Iterator[str]:
@@ -28,6 +30,13 @@ def status_of(store: Store, part: Part) -> Iterator[str]:
         if count:
             yield f"  {counted(count, 'block')} {words}"
     yield from open_block(store, part, last.cut)
+
+
+def line_of(block: Block) -> str:
+    """A line on a block."""
+    signed = f"signed in second {date(block.second)}" if block.second is not None else "not signed yet"
+    extended = f", extended to {date(block.publication)}" if block.publication is not None else ""
+    return f"  lines {block.first_line + 1} to {block.end_line}: cut at {date(block.cut)}, {signed}{extended}"
 
 
 def open_block(store: Store, part: Part, since: int) -> Iterator[str]:

@@ -106,9 +106,18 @@ def logs_of(words: List[str]) -> List[str]:
     rotated files too."""
     found: List[str] = []
     for word in words:
-        for pattern in [word] if is_log(word) else shlex.split(word):
+        for pattern in [word] if is_log(word) else split(word):
             found += [pattern] if is_log(pattern) or not glob.has_magic(pattern) else matching(pattern)
     return list(dict.fromkeys(found))
+
+
+def split(word: str) -> List[str]:
+    """The patterns of a word."""
+    try:
+        return shlex.split(word)
+    except ValueError:
+        # a quote that is not closed is a part of a name
+        return [word.strip()]
 
 
 def is_log(path: str) -> bool:

@@ -153,6 +153,7 @@ class SigningTest(Logged):
         patterns = f'"{self.room}/*.log" '
         self.assertEqual(signing.logs_of([patterns]), [self.path("a b.log"), self.path("c.log")])
         self.assertEqual(signing.logs_of([self.path("a b.log")]), [self.path("a b.log")])
+        self.assertEqual(signing.logs_of(["it's"]), ["it's"])
         self.assertEqual(signing.logs_of([f"{self.room}/d.log {self.room}/e.log "]), [self.path("d.log"), self.path("e.log")])
         out = self.run_log("sign", "--rotated", patterns)
         self.assertIn("a b.log: lines 1 to 1\n", out)
