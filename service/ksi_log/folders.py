@@ -1,6 +1,7 @@
 """The folder of a proof: the files for a reader who has no store (docs/FORMATS.md, "Folders of proofs")."""
 import json
 import os
+import stat
 import tempfile
 from typing import Any, Dict, NamedTuple, Optional
 
@@ -69,22 +70,27 @@ def write(path: str, folder: Folder) -> None:
 
 def loaded(path: str) -> Folder:
     """A folder that somebody gave. Raises LogError if a file is missing or too large."""
-    contents = {}
-    for name in (LINE, PROOF, SIGNATURE, PUBLICATIONS):
-        with open(os.path.join(path, name), "rb") as file:
-            contents[name] = file.read(MOST_BYTES + 1)
-        if len(contents[name]) > MOST_BYTES:
-            raise LogError(f"{os.path.join(path, name)} has more than {MOST_BYTES} bytes")
-    return Folder(contents[LINE], contents[PROOF], contents[SIGNATURE], contents[PUBLICATIONS], about_in(path))
+    line, proof, signature, publications = (content_of(os.path.join(path, name)) for name in (LINE, PROOF, SIGNATURE, PUBLICATIONS))
+    return Folder(line, proof, signature, publications, about_in(path))
+
+
+def content_of(path: str) -> bytes:
+    """A file that somebody gave. Raises LogError if it is too large, or no regular file, which could keep the reader waiting."""
+    with open(path, "rb", opener=lambda name, flags: os.open(name, flags | os.O_NONBLOCK)) as file:
+        if not stat.S_ISREG(os.fstat(file.fileno()).st_mode):
+            raise LogError(f"{path} is not a regular file")
+        content = file.read(MOST_BYTES + 1)
+    if len(content) > MOST_BYTES:
+        raise LogError(f"{path} has more than {MOST_BYTES} bytes")
+    return content
 
 
 def about_in(path: str) -> Dict[str, Any]:
     """The statements of a folder, or none if they are not readable: nothing rests on them."""
     try:
-        with open(os.path.join(path, ABOUT), encoding="utf-8") as file:
-            found = json.loads(file.read(1 << 16))
+        found = json.loads(content_of(os.path.join(path, ABOUT)))
         return found if isinstance(found, dict) else {}
-    except (OSError, ValueError):
+    except (OSError, LogError, ValueError, RecursionError):
         return {}
 
 

@@ -4,7 +4,7 @@ from typing import Iterator, List, NamedTuple, Optional, Tuple
 
 from . import folders, programs
 from .errors import LogError, date
-from .lines import MARK, recorded
+from .lines import recorded
 
 SHOWN_BYTES = 200
 REASONS = {
@@ -48,23 +48,24 @@ def shown(line: bytes) -> str:
     return "".join(it if it.isprintable() else it.encode("unicode_escape").decode() for it in text) + (" .." if len(line) > SHOWN_BYTES else "")
 
 
+def shown_in(folder: folders.Folder, name: str) -> str:
+    """A statement of a folder as printable text."""
+    return shown(str(folder.about[name]).encode(errors="replace"))
+
+
 def see_marked(path: str, folder: folders.Folder) -> None:
     """Raises LogError if the folder's `marked-line` is not that of its line."""
     name = os.path.join(path, folders.MARKED)
     if os.path.exists(name):
-        with open(name, "rb") as file:
-            if file.read(len(MARK) + 200) not in {recorded(line) for line, _ in forms_of(folder.line)}:
-                raise LogError(f"{name} has another length or hash than the file `line`")
+        if folders.content_of(name) not in {recorded(line) for line, _ in forms_of(folder.line)}:
+            raise LogError(f"{name} has another length or hash than the file `line`")
 
 
 def verify(path: str, publications: Optional[str]) -> Iterator[str]:
     """Yields lines on a folder. Raises LogError if it does not show what it should."""
     folder = folders.loaded(path)
     see_marked(path, folder)
-    content = folder.publications
-    if publications:
-        with open(publications, "rb") as file:
-            content = file.read(folders.MOST_BYTES)
+    content = folders.content_of(publications) if publications else folder.publications
     verdict = verdict_of(folder, content)
     rests = folders.rests_on(folder.signature, content)
     if not verdict.is_accepted:
@@ -83,5 +84,5 @@ def verify(path: str, publications: Optional[str]) -> Iterator[str]:
         whose = f"It is in {publications}." if publications else "It is in the folder's own file, so compare it with a print or another copy (--publications FILE)."
         yield f"{whose} Then nobody has to be trusted for the second."
     if {"log", "line"} <= folder.about.keys():
-        yield f"Its keeper says that it is line {folder.about['line']} of {shown(str(folder.about['log']).encode())}. Nothing here shows that."
+        yield f"Its keeper says that it is line {shown_in(folder, 'line')} of {shown_in(folder, 'log')}. Nothing here shows that."
     yield "Nothing here shows who wrote the line, that it is true, or that the log is complete."

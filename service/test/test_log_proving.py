@@ -125,12 +125,17 @@ class ProvingTest(Logged):
         self.assertIn("has another root", self.refused("verify", self.folder, "--publications", self.path("mine")))
         self.write(publications_file(self.calendar.published), "mine")
         self.assertIn(f"It is in {self.path('mine')}.", self.run_log("verify", self.folder, "--publications", self.path("mine")))
-        self.change("about.json", b"[]")
-        self.assertNotIn("Its keeper says", self.run_log("verify", self.folder))
+        for content in (b"[]", b"[" * 100_000, b"\xff", b"{}"):
+            self.change("about.json", content)
+            self.assertNotIn("Its keeper says", self.run_log("verify", self.folder))
+        self.change("about.json", b'{"log": "\\u001b[31m\\ud800", "line": [7]}')
+        self.assertIn("line [7] of \\x1b[31m?. Nothing", self.run_log("verify", self.folder))
         self.change("line", b"\x1b[31mred\xff")
         self.assertIn("not shown", self.refused("verify", self.folder))
         os.remove(os.path.join(self.folder, "proof"))
         self.assertIn("proof: No such file", self.refused("verify", self.folder))
+        os.mkfifo(os.path.join(self.folder, "proof"))
+        self.assertIn("proof is not a regular file", self.refused("verify", self.folder))
 
     def test_bytes_that_a_terminal_would_obey_are_escaped(self):
         self.append(b"\x1b[31mred\xff\x00\n")
