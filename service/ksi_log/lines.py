@@ -87,19 +87,16 @@ class Log:
     def line(self, first_byte: int) -> bytes:
         """The line that begins at a byte, as it is in the log, without its line feed."""
         cut = self.take(first_byte, 1)
-        self.file.seek(first_byte)
-        return self.file.read(cut.size - cut.is_ended)
+        return self.content(first_byte, cut.size - cut.is_ended)
 
-    def text(self, first_byte: int, size: int) -> Optional[bytes]:
-        """Bytes of the log as they are, which is the text of their lines in a block, unless it is None: a line may be replaced there."""
+    def content(self, first_byte: int, size: int) -> bytes:
+        """Bytes of the log as they are."""
         self.file.seek(first_byte)
-        found = self.file.read(size)
-        return found if MARK not in found else None
+        return self.file.read(size)
 
     def has_feed_at(self, place: int) -> bool:
         """Whether there is a line feed at a byte."""
-        self.file.seek(place)
-        return self.file.read(1) == b"\n"
+        return self.content(place, 1) == b"\n"
 
 
 def taken(file: BinaryIO, first_byte: int, most: int) -> Cut:

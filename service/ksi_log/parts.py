@@ -5,7 +5,7 @@ from typing import Iterator, List, NamedTuple, Optional, Tuple
 
 from .errors import Changed, LogError, counted
 from .leaves import differing, is_line, root_of
-from .lines import Cut, Log
+from .lines import MARK, Cut, Log
 from .store import Block, Part, Store
 
 
@@ -48,11 +48,12 @@ def first_fault(store: Store, log: Log, part: Part) -> Optional[str]:
     """A sentence on the first signed line that the log lacks, or None if it has all of the part."""
     place = 0
     for block in store.blocks(part.part):
-        seed, text = store.needed_seed(block), log.text(place, block.size)
-        if text is not None and digest_of(seed, text) == block.digest:
+        seed, content = store.needed_seed(block), log.content(place, block.size)
+        # a line with the mark has another one in its place
+        if MARK not in content and digest_of(seed, content) == block.digest:
             place += block.size
             continue
-        # line by line: a long line is replaced, or the last one has no line feed, or lines were changed
+        # line by line: a line is replaced, or the last one has no line feed, or lines were changed
         cut = log.take(place, block.lines)
         if len(cut.lines) != block.lines or digest_of(seed, cut.text) != block.digest:
             return fault_of(store, block, cut)

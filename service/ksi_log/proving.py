@@ -1,6 +1,6 @@
 """Proves a line: the files of its folder, from the store and the line alone."""
 import os
-from typing import Iterator, List, NamedTuple, Optional, Tuple
+from typing import List, NamedTuple, Optional, Tuple
 
 from . import folders, leaves, parts, programs
 from .doors import WAITS, Doors
@@ -54,7 +54,10 @@ def containing(log: Log, text: bytes) -> int:
     found: List[int] = []
     first = 1
     for cut in log.cuts(0):
-        found += [first + place for place, line in enumerate(cut.lines) if text in line]
+        # as they are in the log, since a long line is replaced in a block
+        content = log.content(cut.first_byte, cut.size)
+        if text in content:
+            found += [first + place for place, line in enumerate(content.split(b"\n")) if text in line]
         first += len(cut.lines)
     if len(found) == 1:
         return found[0]
@@ -66,19 +69,20 @@ def by_text(store: Store, text: bytes, number: Optional[int], part: Optional[int
     """The line with a text, which may end with a line feed that is not the line's. It needs no log, only the leaves and the seed."""
     for line in dict.fromkeys([text, text[:-1] if text.endswith(b"\n") else text]):
         for it in store.parts():
-            if part in (None, it.part):
-                for block, place in places_of(store, it, number):
-                    if leaves.is_line(store.leaves(block.block), store.needed_seed(block), place, recorded(line)):
-                        return Found(it, block, place, line)
+            for block in store.blocks(it.part) if part in (None, it.part) else []:
+                place = place_in(store, block, number, recorded(line))
+                if place is not None:
+                    return Found(it, block, place, line)
     raise LogError(f"no line of {store.path} has this text" + (f" and number {number}" if number else ""))
 
 
-def places_of(store: Store, part: Part, number: Optional[int]) -> Iterator[Tuple[Block, int]]:
-    for block in store.blocks(part.part):
-        if number is None:
-            yield from ((block, place) for place in range(block.lines))
-        elif block.first_line < number <= block.end_line:
-            yield block, number - 1 - block.first_line
+def place_in(store: Store, block: Block, number: Optional[int], line: bytes) -> Optional[int]:
+    """The place of a line in a block, which may be that of the number only, or None if it is not in it."""
+    first, end = (0, block.lines) if number is None else (number - 1 - block.first_line, number - block.first_line)
+    if first < 0 or end > block.lines:
+        return None
+    content, seed = store.leaves(block.block), store.needed_seed(block)
+    return next((place for place in range(first, end) if leaves.is_line(content, seed, place, line)), None)
 
 
 def extended(store: Store, doors: Doors, block: Block) -> Tuple[bytes, bytes]:

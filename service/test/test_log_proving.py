@@ -96,7 +96,7 @@ class ProvingTest(Logged):
         self.append(LONG + b"\n" + b"ksi-log replaced 1 bytes\n")
         self.run_log("sign", self.log)
         self.calendar.publish()
-        self.prove("-n", "101")
+        self.prove("--grep", "xxx")
         self.assertEqual((self.content("line"), self.content("marked-line")[:29]), (LONG, b"ksi-log replaced 8001 bytes S"))
         self.assertIn("It has 8001 bytes. A line with its length and SHA-256 is in its place", self.run_log("verify", self.folder))
         self.change("line", LONG[:-1] + b"y")
