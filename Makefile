@@ -1,10 +1,10 @@
-# Builds and installs ksi, ksi-show, ksi-service, the library for C, their manual pages and the page for browsers:
+# Builds and installs ksi, ksi-show, ksi-service, ksi-log, the library for C, their manual pages and the page for browsers:
 #
 #   make                        proves and builds everything except the page for browsers
 #   make programs               proves and builds only the programs
 #   make page                   builds the page for browsers
 #   make install PREFIX=/usr/local
-#   make install-service        installs only ksi and ksi-service, with the units of service/deploy; `make programs` is enough for it
+#   make install-service        installs only ksi, ksi-service and ksi-log, with the units of service/deploy; `make programs` is enough for it
 #   make check                  runs .ci/run
 #   make dist                   builds everything and writes a release: out/ksi-VERSION, with static programs, packages and SHA256SUMS
 #   make deb, make static       build Debian packages, or a static ksi, after `make`
@@ -24,7 +24,7 @@ VIEWER = crates/ksi_show/out/ksi_show
 # the programs of ksi-service, of mirrors and of archives: installed if they are built
 NODES = ksi_serve ksi_retrace ksi_roots ksi_print
 # the programs with a manual page and completions
-NAMES = ksi ksi-show ksi-service
+NAMES = ksi ksi-show ksi-service ksi-log
 # the kit's folder, with the libraries for a static program
 KIT = $(dir $(realpath $(shell command -v $(RT))))..
 ARCHIVE = crates/ksi_c/out/libksi_c.a
@@ -41,7 +41,7 @@ IS_ODD_ROOT = $(strip $(foreach it,$(ODD_ROOT),$(findstring $(it),$(DESTDIR))))
 REFUSED = $(if $(IS_ODD),$(error PREFIX has a space or one of $(ODD), or does not begin with /: units and ksi.pc cannot contain it))$(if $(IS_ODD_ROOT),$(error DESTDIR has one of $(ODD_ROOT), which the shell would misread))
 # the replacement of @PREFIX@, for sed
 FILLED = s|@PREFIX@|$(subst &,\&,$(PREFIX))|; s|@LIBDIR@|$(subst &,\&,$(LIBDIR))|
-UNITS = ksi-service.service ksi-mirror.service
+UNITS = ksi-service.service ksi-mirror.service ksi-log@.service ksi-log@.timer ksi-log-journal.service ksi-log-journal.timer
 
 all: programs library pages
 
@@ -84,17 +84,21 @@ install-service:
 	$(REFUSED)
 	install -Dm755 $(PROGRAM) "$(ROOT)/bin/ksi"
 	install -Dm755 service/ksi-service "$(ROOT)/lib/ksi/ksi-service"
-	install -d "$(ROOT)/lib/ksi/ksi_service" "$(ROOT)/lib/systemd/system" "$(ROOT)/lib/sysusers.d"
+	install -m755 service/ksi-log "$(ROOT)/lib/ksi/ksi-log"
+	install -d "$(ROOT)/lib/ksi/ksi_service" "$(ROOT)/lib/ksi/ksi_log" "$(ROOT)/lib/systemd/system" "$(ROOT)/lib/sysusers.d"
 	install -m644 service/ksi_service/*.py "$(ROOT)/lib/ksi/ksi_service"
+	install -m644 service/ksi_log/*.py "$(ROOT)/lib/ksi/ksi_log"
 	install -m644 VERSION "$(ROOT)/lib/ksi/VERSION"
 	install -m755 service/confirm-fork service/anchors/anchor-git service/anchors/anchor-ots "$(ROOT)/lib/ksi"
 	install -Dm644 service/deploy/ksi-alerts.yaml "$(ROOT)/share/ksi/ksi-alerts.yaml"
+	sed -e '$(FILLED)' service/deploy/ksi-log.logrotate > "$(ROOT)/share/ksi/ksi-log.logrotate" && chmod 644 "$(ROOT)/share/ksi/ksi-log.logrotate"
 	for it in $(NODES); do \
 	    if test -e crates/$$it/out/$$it; then install -m755 crates/$$it/out/$$it "$(ROOT)/lib/ksi/$$it" || exit; \
 	    else echo "$$it is not built, so it is not installed: run make programs"; fi; \
 	done
 	ln -sf ../../bin/ksi "$(ROOT)/lib/ksi/ksi"
 	ln -sf ../lib/ksi/ksi-service "$(ROOT)/bin/ksi-service"
+	ln -sf ../lib/ksi/ksi-log "$(ROOT)/bin/ksi-log"
 	for it in $(UNITS); do sed -e '$(FILLED)' service/deploy/$$it > "$(ROOT)/lib/systemd/system/$$it" && chmod 644 "$(ROOT)/lib/systemd/system/$$it" || exit; done
 	install -m644 service/deploy/ksi.sysusers "$(ROOT)/lib/sysusers.d/ksi.conf"
 

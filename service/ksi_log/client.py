@@ -1,0 +1,1 @@
+../../lang/python/ksi/client.py
