@@ -96,6 +96,12 @@ class Troubled:
         await asyncio.sleep(self.dice.random())
         await self.carrier.send(machine, batch, patience)
 
+    def add(self, machine, address, limit=None):
+        self.carrier.add(machine, address, limit)
+
+    def remove(self, machine):
+        self.carrier.remove(machine)
+
     def reachable(self):
         return self.carrier.reachable()
 

@@ -18,6 +18,8 @@ LOOK_SECONDS = 0.05
 """How often is looked which aggregators take requests."""
 MINORITY_SECONDS = 0.5
 """After this time without a majority of the cores, requests are refused: with the pauses between looks, within a second."""
+MINORITY_SECONDS_GATEWAY = 0.25
+"""The same of a gateway, which notices later that others are away."""
 SWEEP_SECONDS = 0.25
 
 
@@ -100,9 +102,16 @@ class Desk:
         self.places: Dict[int, Place] = {}
         self.placed = asyncio.get_running_loop().create_future()
         """Done once there are places: all requests that wait for one are woken together."""
-        self.has_majority = not host.peers
+        self.minority_seconds = MINORITY_SECONDS_GATEWAY if host.places.is_gateway else MINORITY_SECONDS
+        homes = [host.places.mine] if host.places.is_gateway else host.places.full.values()
+        near = {it for its in homes for it in its}
+        self.below = {core: [it for it in numbers if f"a{it}" in near] for core, numbers in self.plan.below.items()}
+        """The aggregators below each core to which requests go: a gateway's own ones, or those of all machines but gateways."""
+        self.above = {above for numbers in self.below.values() for it in numbers for above in self.plan.ways[it]}
+        """These, and all between them and their cores."""
+        self.has_majority = not host.trusted
         """Whether requests are taken. Of several machines not before a majority was seen: the door is open by then."""
-        self.majority_seen = float("-inf") if host.peers else time.monotonic()
+        self.majority_seen = float("-inf") if host.trusted else time.monotonic()
         self.signed = 0
         self.again = 0
         self.busy = 0
@@ -180,7 +189,7 @@ class Desk:
     def comes_late(self, leader: int, second: int) -> bool:
         """Whether a request would reach the leader's machine only when the rounds of the second are closed, by how long batches take."""
         machine = self.host.places.machine_of[f"c{leader}"]
-        if machine == self.host.places.me or not is_on("ahead"):
+        if machine == self.host.places.me or self.host.places.is_gateway or not is_on("ahead"):
             return False
         return self.host.now() + min(2.0, 2 * self.host.outbox.usual(machine)) > second + 1
 
@@ -205,7 +214,7 @@ class Desk:
         may_sign = self.host.view.is_majority() and not self.host.view.is_off(self.host.places.me)
         if may_sign:
             self.majority_seen = now
-        self.has_majority = now - self.majority_seen < MINORITY_SECONDS
+        self.has_majority = now - self.majority_seen < self.minority_seconds
         self.places = self.places_now() if may_sign else {}
         if self.places or not self.has_majority or self.host.now() > self.host.last_second + 1:
             placed = self.placed
@@ -215,12 +224,12 @@ class Desk:
     def places_now(self) -> Dict[int, Place]:
         view = self.host.view
         first = int(self.host.now())
-        taking = {it for it in range(len(self.plan.parents)) if view.takes(f"a{it}")}
+        taking = {it for it in self.above if view.takes(f"a{it}")}
         places = {}
         for second in range(first, min(first + self.plan.cores, self.host.last_second) + 1):
-            leader = next((it for it in view.order(second) if self.plan.below[it]), None)
-            if leader is not None and view.leads(leader, second):
-                up = [f"a{it}" for it in self.plan.below[leader] if taking.issuperset(self.plan.ways[it])]
+            leader = view.leader(second)
+            if leader is not None:
+                up = [f"a{it}" for it in self.below[leader] if taking.issuperset(self.plan.ways[it])]
                 if second < self.host.rounds.next:
                     # the rounds of this machine are closed
                     up = [it for it in up if it not in self.host.nodes]

@@ -11,7 +11,7 @@
     ["alive", {..}]                           a heartbeat (heartbeat.py)
     ["retired", {..}]                         the cores there retired (succession.py)
 
-All but `line` and `retired` are hints: a wrong one costs time, and changes no root. The sender's name is the carrier's, which authenticates it. Of a
+A gateway sends and is sent only some of them (gateway_links.py). All but `line` and `retired` are hints: a wrong one costs time, and changes no root. The sender's name is the carrier's, which authenticates it. Of a
 machine whose last heartbeat was refused, or that sent none yet, nothing but `retired` is taken."""
 import logging
 import re
@@ -28,6 +28,8 @@ MOST_AHEAD = 2
 """Lines for seconds that are further ahead of this machine's clock are dropped: a machine whose clock is ahead decides nothing alone."""
 MOST_LINES = 10_000
 """How many lines may wait for a node here. Further lines are dropped."""
+FROM_ABOVE = {"line", "none", "alive", "retired"}
+"""What a gateway takes of the machines above it: requests come to its own door alone, and it looks for no signature of others."""
 LINE = re.compile(r"(?:synod [0-9] [0-9]{1,12} (?:next|last|begin|voted|success)|submission [0-9]{1,4} [0-9]{1,12}|response [0-9]{1,12})(?: [!-~]+)*")
 """The lines that nodes send."""
 HASH = re.compile("[0-9a-f]{64}")
@@ -58,7 +60,12 @@ class Inbox:
             self.host.succession.see_other_plan(machine)
         if machine not in self.host.peers:
             self.dropped += 1
-            return
+        elif machine in self.host.links.names:
+            self.host.links.take(machine, batch)
+        else:
+            self.take_all(machine, batch)
+
+    def take_all(self, machine: str, batch: bytes) -> None:
         try:
             messages = messages_in(batch)
         except ValueError as fault:
@@ -69,6 +76,9 @@ class Inbox:
 
     def take_one(self, machine: str, message: Message) -> None:
         kind, *words = message
+        if self.host.places.is_gateway and kind not in FROM_ABOVE and machine not in self.host.links.names:
+            self.dropped += 1
+            return
         if kind not in ("alive", "retired") and not self.host.heartbeat.takes_part(machine):
             self.dropped += 1
             return
@@ -92,10 +102,10 @@ class Inbox:
             self.host.give(to, text, [machine, number_in(step), number_in(place)])
 
     def machine_of_sender(self, to: str, text: str) -> str:
-        """The machine of the node that a line says it is from. Who sends a response is in no word: it is the node above."""
+        """The machine of the node that a line says it is from, or no name if that has none. Who sends a response is in no word: it is the node above."""
         word, number, _ = text.split(" ", 2)
         sender = {"synod": f"c{number}", "submission": f"a{number}"}.get(word) or self.host.plan.parents[int(to[1:])]
-        return self.host.places.machine_of[sender]
+        return self.host.places.machine_of.get(sender, "")
 
     def closed(self, machine: str, aggregator: str, second: int) -> None:
         if self.host.places.machine_of[aggregator] == machine and self.is_near(second):

@@ -47,10 +47,13 @@ class Rounds:
         self.responses: Dict[Tuple[str, int], asyncio.Future] = {}
         self.next = max(self.plan.start, host.record.state.second, int(host.now()))
         """The first second whose rounds are open: none before takes a request, whatever the machine's clock says."""
-        self.stride = len(host.places.nodes)
+        self.levels = {core: [[it for it in level if f"a{it}" in host.places.mine] for level in levels] for core, levels in self.plan.levels.items()}
+        """The aggregators of this machine below each core by levels, the deepest first."""
+        self.stride = max(1, len(host.places.full))
         first = int(host.now() * 1000) << 20
         self.number = first - first % self.stride + host.places.number
-        """The number of the last request. Numbers of different machines have different remainders."""
+        """The number of the last request. Numbers of different machines have different remainders; those of a gateway need only differ at each
+        of its own aggregators."""
         self.late = 0
         self.on_signed: Callable[[str, int, Tuple[int, int]], None] = lambda imprint, second, place: None
         """Is called with each hash that was signed, its second, and the place of its signature on the record."""
@@ -180,8 +183,8 @@ class Rounds:
     async def close(self, second: int) -> None:
         """Closes the rounds of a second, level by level, so that each submission arrives before the round above it is closed."""
         async def close_below(core):
-            for level in self.plan.levels[core]:
-                await asyncio.gather(*(self.close_one(f"a{it}", second) for it in level if f"a{it}" in self.host.nodes))
+            for level in filter(None, self.levels[core]):
+                await asyncio.gather(*(self.close_one(f"a{it}", second) for it in level))
         await asyncio.gather(*map(close_below, range(self.plan.cores)))
 
     async def close_one(self, aggregator: str, second: int) -> None:
