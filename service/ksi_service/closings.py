@@ -11,7 +11,7 @@ KEPT_SECONDS = 60
 
 
 class Closings:
-    """For a gateway's rounds the node above waits less long, and not at all if they were late a moment ago (gateway_links.py)."""
+    """For a gateway's rounds the node above waits less long, and not at all if they were late several times (gateway_links.py)."""
 
     def __init__(self, host) -> None:
         self.host = host

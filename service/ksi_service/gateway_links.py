@@ -38,13 +38,14 @@ MOST_BYTES, BATCHES, MOST_BATCHES = 1 << 16, 10.0, 40
 """The largest batch of a gateway, how many batches a second it may send, and how many at once."""
 LATE_SECONDS = 10
 """A submission for a second that began longer ago than this is dropped."""
-MOST_MISSES = 6
+FREE_MISSES, MOST_MISSES = 2, 8
+"""How often a gateway's round may be late until the next one is not waited for, and how many times count."""
 SUBMISSION = re.compile(r"submission (0|[1-9][0-9]{0,3}) ([0-9]{1,12}) [0-9a-f]{64} ([0-9]{1,3})(?: [!-~]{1,64})?")
 LOOK_SECONDS = 1.0
 
 
 class Punctual:
-    """For whose rounds the nodes above wait: not for a gateway's that was late a moment ago. It is waited for again after 2, 4, 8 .. seconds."""
+    """For whose rounds the nodes above wait: not for a gateway's that was late several times. It is waited for again after 2, 4, 8 .. seconds."""
 
     def __init__(self) -> None:
         self.misses: Dict[str, int] = {}
@@ -55,9 +56,9 @@ class Punctual:
 
     def note(self, aggregator: str, second: int, in_time: bool) -> None:
         """Notes whether a round that was waited for was closed in time."""
-        misses = max(0, min(MOST_MISSES, self.misses.get(aggregator, 0) + (-1 if in_time else 1)))
+        misses = max(0, min(MOST_MISSES, self.misses.get(aggregator, 0) + (-2 if in_time else 1)))
         self.misses[aggregator] = misses
-        self.until[aggregator] = second + 1 + (0 if in_time else 2 ** misses)
+        self.until[aggregator] = second + 1 + (0 if in_time or misses <= FREE_MISSES else 2 ** (misses - FREE_MISSES))
 
 
 class Links:

@@ -42,6 +42,8 @@ WITHOUT = "the service goes on without"
 """The words of the log for a node that is left out, or not ready yet."""
 AFTER, AFTER_ALONE = 1.05, 1.01
 """How long after its beginning a second is driven, so that requests for it have arrived: from other machines' doors, or from this one's."""
+MOST_EARLY = 0.5
+"""By how much earlier a gateway closes its rounds, at most."""
 QUIET_START_SECONDS, PATIENT_SECONDS = 5, 60
 """How long a start waits for nodes before it logs for which; and how long for all of them, if fewer are enough."""
 AGAIN_SECONDS = 60
@@ -66,7 +68,6 @@ class Host:
         self.places = places or Places.alone(plan)
         self.now = now
         self.clock = clock or ClockCheck(unchecked=True)
-        self.after = AFTER_ALONE if carrier is None or self.places.is_gateway else AFTER
         self.record = Record(os.path.join(folder, "record"), plan.text(), self.clock.described())
         self.carrier = carrier
         self.published: Callable[[], Optional[int]] = lambda: None
@@ -118,6 +119,14 @@ class Host:
         words = [program("ksi_serve"), os.path.join(self.folder, "plan"), name, self.folder, f"{name}.facts"]
         return Node(name, words, self.record, lambda step, block: self.route(name, step, block), lambda: self.may_lack(name), self.let_in,
                     lambda text: self.succession.may_take(name, text))
+
+    @property
+    def after(self) -> float:
+        """How long after its beginning a second is driven, and its rounds are closed. A gateway closes them earlier by how long batches take,
+        since the nodes above do not wait long for it; later requests go to the next second."""
+        if self.places.is_gateway and self.outbox is not None:
+            return AFTER_ALONE - min(MOST_EARLY, 2 * max(map(self.outbox.usual, self.trusted), default=0.0))
+        return AFTER_ALONE if self.carrier is None else AFTER
 
     def machines_trusted(self) -> Dict[str, Peer]:
         below = self.places.below(self.plan)
