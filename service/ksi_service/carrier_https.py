@@ -273,6 +273,7 @@ class HttpsCarrier:
 
     def add(self, machine: str, address: str, limit: Optional[Limit] = None) -> None:
         self.addresses[machine] = address
+        self.strangers.discard(machine)
         self.connections.setdefault(machine, collections.deque())
         if self.resolver is not None:
             self.resolver.add(machine, address)

@@ -16,8 +16,8 @@ from typing import Any, Dict, List, Optional, Set
 
 from .carrier import Limit, Message, messages_in
 from .errors import ServiceError
-from .hours import Broken
 from .places import Places
+from .plans import Content
 from .shares import Share
 from .view import Peer
 from .watching import Watch
@@ -133,6 +133,8 @@ class Links:
     def take_over(self, found: Places) -> None:
         before = self.host.places
         self.host.places = found
+        # the next plan that follows without a command has the same gateways
+        self.host.succession.content = Content(self.host.plan, found.text())
         below = found.below(self.host.plan)
         for name in sorted(self.names):
             if name not in below or (before.nodes[name], before.addresses[name]) != (found.nodes[name], found.addresses[name]):

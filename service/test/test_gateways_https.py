@@ -2,17 +2,15 @@
 rates, its record checked and saved alone, and all folders as one history."""
 import os
 import shutil
-import time
 import unittest
 import urllib.error
 import urllib.request
 
 import stands
 from machined import NODES, OverHttps, free_ports
-from ksi_service import certificates, check, clients, files, gateways, machines
+from ksi_service import certificates, check, clients, files, machines
 from ksi_service.command import main
 from ksi_service.folders import Folders, NotOneRun
-from ksi_service.plan import Odd, Plan
 
 ALL = [*NODES, "riga"]
 
@@ -91,16 +89,6 @@ class GatewayTest(OverHttps):
             Folders(paths[:3]).see_all()
         check.check(paths[3], say=said.append, by_node=True)
         self.assertIn("from other machines", " ".join(said))
-
-
-class PlanTest(unittest.TestCase):
-    def test_the_most_gateways(self):
-        """4,096 aggregators, three of them on the cores' machines: 1,364 gateways."""
-        plan = Plan(3, 7, ("c0", "c1", "c2"))
-        nodes = {"A": ("c0", "a0"), "B": ("c1", "a1"), "C": ("c2", "a2")}
-        self.assertEqual(len(gateways.lay_out(plan, nodes, [], 1364).plan.parents), 3 + 3 * 1364)
-        with self.assertRaises(Odd):
-            gateways.lay_out(plan, nodes, [], 1365)
 
 
 if __name__ == "__main__":

@@ -10,6 +10,7 @@ from ksi_service import gateway_links
 from ksi_service.carrier import batch_of
 from ksi_service.desk import Minority
 from ksi_service.places import Places
+from ksi_service.plans import content_in, retirements_in
 from ksi_service.record import Step, told
 
 ALONE = "it measures how soon a gateway notices that machines are away"
@@ -114,11 +115,24 @@ class GatewaysTest(Several):
             left = [(sorted(host.peers), sorted(host.outbox.queues)) for host in cores]
             await machines.until(lambda: not machines.hosts["oslo"].view.is_majority())
             await machines.sign("A", "riga", count=4, first=50)
+            await machines.stop("oslo")
+            await self.see_next(machines)
             return names, left
         nodes = {**RIGA}
         names, left = self.play(work, nodes=nodes, parents=PARENTS)
         self.assertEqual(names, [{"riga", "oslo"}] * 3)
         self.assertEqual(left[0], (["B", "C", "riga"], ["B", "C", "riga"]))
+
+    async def see_next(self, machines):
+        """A gateway follows the machines above it to the next plan."""
+        content = machines.hosts["A"].succession.derived(int(time.time()) + 3)
+        self.assertEqual(set(content.nodes), set(RIGA))
+        for name in "AB":
+            machines.hosts[name].succession.retire(content)
+        host = machines.hosts["riga"]
+        folder = await asyncio.wait_for(host.succession.over, 60)
+        self.assertEqual((content_in(folder).nodes["riga"], host.last_second), (RIGA["riga"], content.plan.start - 1))
+        self.assertGreaterEqual(retirements_in(folder), {"A", "B"})
 
     def test_a_gateway_that_sends_a_hundred_times_its_share_and_closes_no_round(self):
         """The requests of others take as long as before."""
