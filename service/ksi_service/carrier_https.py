@@ -4,6 +4,7 @@ Who sends is the common name of the certificate that the other side of the conne
 reaches is checked before it is sent: the certificate there must have the machine's name. A batch is the body of a `POST /lines`."""
 import asyncio
 import collections
+import contextlib
 import logging
 import socket
 import ssl
@@ -119,8 +120,10 @@ class Connection(web_protocol.RequestHandler):
         self.carrier.closed(self)
 
     def abort(self) -> None:
-        if self.transport is not None:
-            self.transport.abort()
+        # Python 3.11 raises AttributeError for a connection that was closed twice
+        with contextlib.suppress(AttributeError):
+            if self.transport is not None:
+                self.transport.abort()
 
 
 class HttpsCarrier:

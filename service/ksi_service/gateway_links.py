@@ -115,6 +115,9 @@ class Links:
         while True:
             await asyncio.sleep(LOOK_SECONDS)
             if self.watch is not None and self.watch.has_changed():
+                # somebody may be writing it
+                await asyncio.sleep(LOOK_SECONDS)
+                self.watch.has_changed()
                 self.read_again()
 
     def read_again(self) -> None:

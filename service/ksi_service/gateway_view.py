@@ -7,6 +7,8 @@ from typing import Any, Dict, List, Optional
 
 from .view import View
 
+MOST_EARLY, MORE_EARLY, LESS = 0.7, 0.15, 0.95
+"""By how much earlier a gateway closes its rounds at most, by how much more after a round that came too late, and how this falls again."""
 MOST_SECONDS = 64
 """Of how many seconds at most a report may name the core that leads."""
 
@@ -29,6 +31,21 @@ def report_of(view: View) -> Dict[str, Any]:
     first = int(view.host.now())
     leads = {str(it): view.leader(it) for it in range(first, first + view.plan.cores + 3)}
     return {"majority": view.is_majority() and not view.is_off(view.places.me), "held": view.held_by_any(), "leads": {it: core for it, core in leads.items() if core is not None}}
+
+
+class Early:
+    """By how much earlier than the machines above a gateway closes its rounds. It grows while rounds come too late for those above, as on a
+    slow network or a busy machine."""
+
+    def __init__(self) -> None:
+        self.seconds = 0.0
+
+    def note(self, in_time: bool) -> None:
+        """Notes whether a round with requests got its response."""
+        self.seconds = self.seconds * LESS if in_time else min(MOST_EARLY, self.seconds + MORE_EARLY)
+
+    def at_least(self, seconds: float) -> float:
+        return min(MOST_EARLY, max(seconds, self.seconds))
 
 
 class GatewayView(View):

@@ -84,11 +84,13 @@ class Heartbeat:
         self.taken: Set[str] = set()
         """Machines that take part."""
         self.looked = time.monotonic()
+        self.reported = float("-inf")
+        self.seen: Dict[str, Any] = {}
         self.late_since: Dict[str, float] = {}
 
     def message(self, peer: Peer) -> List[Any]:
         host = self.host
-        report = {"seen": report_of(host.view)} if peer.name in host.links.names else {}
+        report = {"seen": self.report()} if peer.name in host.links.names else {}
         return ["alive", {
             **report, "version": version.PROTOCOL, "program": version.version(), "plan": self.plan, "run": self.run_of_host, "you": peer.run, "had": host.record.state.heard.get(peer.name, 0), "now": host.now(),
             "off": host.clock.fault() is not None,
@@ -96,6 +98,13 @@ class Heartbeat:
             "takes": [it for it in host.nodes if it[0] == "a" and host.view.takes(it)],
             "next": {it: core.next for it, core in host.cores.items()},
             "rests": host.view.rests, "waits": not host.succession.is_begun}]
+
+    def report(self) -> Dict[str, Any]:
+        """What gateways are told, the same for all of them."""
+        if time.monotonic() - self.reported > ALIVE_SECONDS / 2:
+            self.reported = time.monotonic()
+            self.seen = report_of(self.host.view)
+        return self.seen
 
     async def run(self) -> None:
         """Sends heartbeats, and notes who is away."""
@@ -127,6 +136,7 @@ class Heartbeat:
                 peer.is_there = False
                 log.warning("%s is away", peer.name)
                 self.host.desk.away(peer.name)
+                self.host.rounds.away(peer.name)
 
     def note_lag(self) -> None:
         """Logs when a core that was late holds all seconds again."""

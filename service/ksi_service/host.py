@@ -19,7 +19,7 @@ from .driver import Driver
 from .finding import Finding
 from .forget import forget_between, see_program
 from .gateway_links import Links
-from .gateway_view import GatewayView
+from .gateway_view import Early, GatewayView
 from .heartbeat import ALIVE_SECONDS, Heartbeat
 from .inbox import Inbox
 from .known import ZERO, Core
@@ -42,8 +42,6 @@ WITHOUT = "the service goes on without"
 """The words of the log for a node that is left out, or not ready yet."""
 AFTER, AFTER_ALONE = 1.05, 1.01
 """How long after its beginning a second is driven, so that requests for it have arrived: from other machines' doors, or from this one's."""
-MOST_EARLY = 0.5
-"""By how much earlier a gateway closes its rounds, at most."""
 QUIET_START_SECONDS, PATIENT_SECONDS = 5, 60
 """How long a start waits for nodes before it logs for which; and how long for all of them, if fewer are enough."""
 AGAIN_SECONDS = 60
@@ -88,6 +86,7 @@ class Host:
         """The gateways right below, which are among the peers."""
         self.view = GatewayView(self) if self.places.is_gateway else View(self)
         self.closings = Closings(self)
+        self.early = Early()
         self.rounds = Rounds(self)
         self.desk = Desk(self, most_waiting)
         self.inbox = Inbox(self)
@@ -122,10 +121,10 @@ class Host:
 
     @property
     def after(self) -> float:
-        """How long after its beginning a second is driven, and its rounds are closed. A gateway closes them earlier by how long batches take,
-        since the nodes above do not wait long for it; later requests go to the next second."""
+        """How long after its beginning a second is driven, and its rounds are closed. A gateway closes them earlier, at least by
+        how long batches take, since the nodes above do not wait long for it; later requests go to the next second."""
         if self.places.is_gateway and self.outbox is not None:
-            return AFTER_ALONE - min(MOST_EARLY, 2 * max(map(self.outbox.usual, self.trusted), default=0.0))
+            return AFTER_ALONE - self.early.at_least(2 * max(map(self.outbox.usual, self.trusted), default=0.0))
         return AFTER_ALONE if self.carrier is None else AFTER
 
     def machines_trusted(self) -> Dict[str, Peer]:
@@ -190,6 +189,8 @@ class Host:
             self.heard(to, int(words[1]), int(words[2]), words[3], words[-1])
         elif words[0] == "submission" and block[0] in ("answer done", "answer known"):
             self.submitted(to, f"a{words[1]}", int(words[2]))
+        elif words[0] == "submission" and block[0] == "answer late":
+            self.announce_none_to(f"a{words[1]}", int(words[2]))
         elif words[0] == "response" and block[0] == "answer done":
             self.rounds.responded(to, int(words[1]))
 
@@ -269,11 +270,14 @@ class Host:
     def announce_none(self, core: str, second: int) -> None:
         """Reports to the aggregators below a core that no response comes for a second."""
         for aggregator in self.children[core]:
-            machine = self.places.machine_of.get(aggregator)
-            if machine == self.places.me:
-                self.rounds.none(aggregator, second)
-            elif machine is not None:
-                self.send(machine, ["none", aggregator, second])
+            self.announce_none_to(aggregator, second)
+
+    def announce_none_to(self, aggregator: str, second: int) -> None:
+        machine = self.places.machine_of.get(aggregator)
+        if machine == self.places.me:
+            self.rounds.none(aggregator, second)
+        elif machine is not None:
+            self.send(machine, ["none", aggregator, second])
 
     # life
 

@@ -224,11 +224,20 @@ class Rounds:
             there.set_result(True)
 
     def none(self, aggregator: str, second: int) -> None:
-        """No response comes for a round."""
+        """No response comes for a round, nor for those below it."""
+        for below in self.host.children[aggregator]:
+            self.host.announce_none_to(below, second)
         if aggregator in self.rounds.get(second, ()):
             there = self.response(aggregator, second)
             if not there.done():
                 there.set_result(False)
+
+    def away(self, machine: str) -> None:
+        """A machine is away: no response comes from it, so requests of rounds right below its nodes are made again."""
+        for second, rounds in list(self.rounds.items()):
+            for aggregator in list(rounds):
+                if self.host.closings.machine_above(aggregator) == machine:
+                    self.none(aggregator, second)
 
     def none_of(self, second: int) -> None:
         """No response comes for any round of a second: its root is zero."""
@@ -248,7 +257,9 @@ class Rounds:
     async def gather(self, aggregator: str, second: int, asked: List[Asked]) -> None:
         """Waits for a round's response, and gives each request its signature, or none."""
         try:
-            if await self.comes(aggregator, second):
+            came = await self.comes(aggregator, second)
+            self.host.early.note(came)
+            if came:
                 await self.sign(aggregator, second, [it for it in asked if it.line.step is not None and not it.is_answered])
                 await self.recorded()
         finally:

@@ -39,7 +39,7 @@ class Told:
         self.is_begun = True
         note = lambda word: lambda *words: self.notes.append((word, *words))
         self.closings = SimpleNamespace(note=note("closed"))
-        self.rounds = SimpleNamespace(none=note("none"), ask=note("ask"), rests=lambda _: False, next=NOW)
+        self.rounds = SimpleNamespace(none=note("none"), ask=note("ask"), rests=lambda _: False, next=NOW, away=note("rounds away"))
         self.desk = SimpleNamespace(got=note("got"), away=note("away"))
         self.finding = SimpleNamespace(find=note("find"), found=note("found"))
         self.tell_peer = note("lacks")
