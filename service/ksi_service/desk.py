@@ -38,9 +38,11 @@ class Over(ServiceError):
 class Batch:
     """Hashes that are signed together, and the signatures so far."""
 
-    def __init__(self, imprints: List[str]) -> None:
+    def __init__(self, imprints: List[str], name: Optional[str] = None) -> None:
         self.imprints = imprints
         """The 64 hex digits of each."""
+        self.name = name
+        """The name that is hashed with each, if there is one."""
         self.found: List[Optional[Tuple[str, int]]] = [None] * len(imprints)
         """The signature of each hash in hex, with its second."""
 
@@ -154,7 +156,7 @@ class Desk:
             if is_on("left") and is_gone():
                 break
             left = batch.left()
-            for place, text in zip(left, await self.ask([batch.imprints[it] for it in left], second, aggregator, is_gone)):
+            for place, text in zip(left, await self.ask([batch.imprints[it] for it in left], second, aggregator, is_gone, batch.name)):
                 if text is not None:
                     batch.found[place] = text, second
                     self.signed += 1
@@ -237,7 +239,7 @@ class Desk:
                     places[second] = Place(leader, up)
         return places
 
-    async def ask(self, imprints: List[str], second: int, aggregator: str, is_gone: Callable[[], bool]) -> List[Optional[str]]:
+    async def ask(self, imprints: List[str], second: int, aggregator: str, is_gone: Callable[[], bool], name: Optional[str] = None) -> List[Optional[str]]:
         """The signatures that an aggregator gives, each or None."""
         machine = self.host.places.machine_of[aggregator]
         answers = Answers(len(imprints))
@@ -248,10 +250,10 @@ class Desk:
             for place in range(len(imprints)):
                 self.pending[first + place] = Pending(answers, place, machine, aggregator, until, is_gone)
             if machine == self.host.places.me:
-                self.host.rounds.ask_all(machine, first, second, aggregator, imprints)
+                self.host.rounds.ask_all(machine, first, second, aggregator, imprints, name)
             else:
                 for ask, imprint in enumerate(imprints, first):
-                    self.host.send(machine, ["ask", ask, second, aggregator, imprint])
+                    self.host.send(machine, ["ask", ask, second, aggregator, imprint, *([name] if name else [])])
             return await answers.all
         finally:
             for ask in range(first, first + len(imprints)):

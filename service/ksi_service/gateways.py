@@ -52,17 +52,20 @@ class Layout(NamedTuple):
     """The aggregators of each gateway."""
 
 
-def lay_out(plan: Plan, nodes: Dict[str, Tuple[str, ...]], gateways: Sequence[str], spares: int) -> Layout:
-    """A plan with aggregators for gateways, and with so many spare ones below each core. Raises NotAdded or Odd if it cannot have them."""
+def lay_out(plan: Plan, nodes: Dict[str, Tuple[str, ...]], gateways: Sequence[str], spares: int, are_named: bool = False) -> Layout:
+    """A plan with aggregators for gateways, which may have the gateways' names, and with this many spare ones below each core. Raises
+    NotAdded or Odd if it cannot have them."""
     seats = seats_of(nodes, plan)
     if not seats and (gateways or spares):
         raise NotAdded("a gateway is below aggregators of the cores' machines, and there are none: give each of these machines an aggregator")
-    parents, found = list(plan.parents), {}
+    parents, found, labels = list(plan.parents), {}, [""] * len(plan.parents)
     for name in gateways:
         found[name] = tuple(f"a{len(parents) + it}" for it in range(len(seats)))
         parents += seats
+        labels += [name if are_named else ""] * len(seats)
     parents += seats * spares
-    return Layout(Plan(plan.cores, plan.start, parents_of(",".join(parents), plan.cores)), found)
+    labels += [""] * (len(seats) * spares)
+    return Layout(Plan(plan.cores, plan.start, parents_of(",".join(parents), plan.cores), tuple(labels) if any(labels) else ()), found)
 
 
 def names_of(text: str) -> List[str]:

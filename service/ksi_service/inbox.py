@@ -3,7 +3,7 @@
     ["line", TO, LINE, STEP, PLACE]           a message that a node there sent: message PLACE of step STEP of that machine's record
     ["closed", AGGREGATOR, SECOND]            a round there is closed, or has no items; what it submitted was sent before
     ["none", AGGREGATOR, SECOND]              no response comes for a round here
-    ["ask", ID, SECOND, AGGREGATOR, HEX]      a request of a door there, for an aggregator here
+    ["ask", ID, SECOND, AGGREGATOR, HEX, NAME]   a request of a door there, for an aggregator here; most have no NAME
     ["got", ID, TEXT or null]                 the answer to such a request: a signature, or none
     ["lacks", CORE, SECOND]                   a core there lacks a second, and asks for its Success
     ["find", ID, HEX]                         a door there looks for a signature of a hash (finding.py)
@@ -20,6 +20,7 @@ from typing import Any, Dict
 from .carrier import Message, messages_in
 from .indexing import Found
 from .messages import second_of
+from .plan import NAME
 from .plans import NotNext
 
 log = logging.getLogger(__name__)
@@ -118,10 +119,10 @@ class Inbox:
         if self.host.places.machine_of[self.host.plan.parents[int(aggregator[1:])]] == machine:
             self.host.rounds.none(aggregator, number_in(second))
 
-    def ask(self, machine: str, ask: int, second: int, aggregator: str, imprint: str) -> None:
-        if not HASH.fullmatch(imprint) or aggregator not in self.host.nodes:
+    def ask(self, machine: str, ask: int, second: int, aggregator: str, imprint: str, name: Any = None) -> None:
+        if not HASH.fullmatch(imprint) or aggregator not in self.host.nodes or name is not None and not NAME.fullmatch(name):
             raise ValueError("not a request")
-        self.host.rounds.ask(machine, number_in(ask), number_in(second), aggregator, imprint)
+        self.host.rounds.ask(machine, number_in(ask), number_in(second), aggregator, imprint, *([] if name is None else [name]))
 
     def got(self, machine: str, ask: int, text: Any) -> None:
         if text is not None and not SIGNATURE.fullmatch(text):

@@ -1,4 +1,5 @@
 """Sets up a service of several machines: its plan, the file of machines, and a certificate for each machine."""
+import dataclasses
 import os
 import re
 import time
@@ -106,14 +107,14 @@ def make_plan(words) -> None:
         return
     machines = [machine_of(word) for word in words.machines]
     plan = plan_of(machines, words.parents, first_second(words))
-    plan = with_gateways(machines, plan, [gateways.gateway_of(it) for it in words.gateway], words.spares)
+    plan = with_gateways(machines, plan, [gateways.gateway_of(it) for it in words.gateway], words.spares, words.named)
     write(words.out, machines, plan, before_in(words.of))
     print(f"saved {os.path.join(words.out, 'plan')} and {os.path.join(words.out, 'machines')}, the same for all machines{first_in(plan)}")
 
 
-def with_gateways(machines: List[Machine], plan: Plan, added: List[gateways.Gateway], spares: int) -> Plan:
+def with_gateways(machines: List[Machine], plan: Plan, added: List[gateways.Gateway], spares: int, are_named: bool = False) -> Plan:
     """The plan with aggregators for gateways and spare ones. The gateways are added to the machines."""
-    laid = gateways.lay_out(plan, {it.name: it.nodes for it in machines}, [it.name for it in added], spares)
+    laid = gateways.lay_out(plan, {it.name: it.nodes for it in machines}, [it.name for it in added], spares, are_named)
     machines += [Machine(it.name, it.address, laid.nodes[it.name]) for it in added]
     see_names(machines)
     return laid.plan
@@ -157,7 +158,7 @@ def replace(words) -> None:
     rows.append(new._replace(nodes=nodes[words.machine]))
     old = before.content.plan
     see_names(rows)
-    plan = Plan(old.cores, first_second(words), old.parents)
+    plan = dataclasses.replace(old, start=first_second(words))
     write(words.out, rows, plan, before)
     print(f"saved {words.out}: run `ksi-service succeed {words.out}` on each machine that is left{first_in(plan)}")
     if os.path.exists(os.path.join(words.of, "authority.key")):
@@ -209,6 +210,7 @@ def add_commands(commands, positive) -> None:
     one.add_argument("machines", nargs="*", metavar="NAME=HOST:PORT:NODES", help="a machine, its address for other machines, and its nodes, as A=10.0.0.1:7443:c0,a0; none for the next plan of a service of one machine")
     one.add_argument("--parents", metavar="PARENTS", help="to whom each aggregator submits, as c0,c1,a0; otherwise to a core of its machine")
     one.add_argument("--gateway", action="append", default=[], metavar="NAME=HOST:PORT", help="a gateway, and its address for the cores' machines, as riga=10.0.0.9:7443; it gets an aggregator below each core")
+    one.add_argument("--named", action="store_true", help="hash the gateways' names into the tree: signatures show through which gateway they were made")
     one.add_argument("--spares", type=natural, default=0, metavar="NUMBER", help="for how many gateways aggregators are left over, so that `gateway add` can add them while the service runs (default 0)")
     one.add_argument("--cores", type=int, choices=range(1, 10), metavar="1..9", help="how many cores a plan of one machine has: 3")
     add_next(one, positive, 1)

@@ -61,11 +61,11 @@ class Rounds:
 
     # requests
 
-    def ask(self, machine: str, ask: int, second: int, aggregator: str, imprint: str) -> None:
+    def ask(self, machine: str, ask: int, second: int, aggregator: str, imprint: str, name: Optional[str] = None) -> None:
         """Takes a request from a door, or answers it with none."""
-        self.ask_all(machine, ask, second, aggregator, [imprint])
+        self.ask_all(machine, ask, second, aggregator, [imprint], name)
 
-    def ask_all(self, machine: str, first: int, second: int, aggregator: str, imprints: List[str]) -> None:
+    def ask_all(self, machine: str, first: int, second: int, aggregator: str, imprints: List[str], name: Optional[str] = None) -> None:
         """Takes requests from a door, whose numbers there begin with the first one; or answers each with none."""
         last = min(int(self.host.now()) + self.plan.cores + 1, self.host.last_second)
         if not self.next <= second <= last or not self.accepts(aggregator):
@@ -76,7 +76,7 @@ class Rounds:
         requests, lines = self.rounds[second][aggregator], []
         for ask, imprint in enumerate(imprints, first):
             self.number += self.stride
-            line = Line(request_of(self.number, second, imprint))
+            line = Line(request_of(self.number, second, imprint, name))
             asked = Asked(machine, ask, self.number, imprint, line)
             requests.append(asked)
             line.answer.add_done_callback(functools.partial(self.taken, asked))

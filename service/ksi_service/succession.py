@@ -13,6 +13,7 @@ Machines report it by this message, which is no line of a node:
 `of` and `next` are names of plans (plans.py), `plan` and `machines` the files of the next plan, `ended` whether the machine's host of
 the plan before has ended, and `known` the machines of which the sender knows that they retired."""
 import asyncio
+import dataclasses
 import logging
 import os
 import time
@@ -21,7 +22,6 @@ from typing import Any, Dict, NamedTuple, Optional, Set
 from .errors import NeedsOperator
 from .inbox import number_in
 from .messages import last_second_to_core
-from .plan import Plan
 from .plans import Before, Content, Lost, content_in, folder_of, keep_retirements, name_of, retirements_in, write_folder
 from .record import Retired
 from .storing import LostFacts
@@ -232,7 +232,7 @@ class Succession:
 
     def derived(self, start: int) -> Content:
         """The plan that follows without a command: the same nodes on the same machines."""
-        return Content.of(Plan(self.host.plan.cores, start, self.host.plan.parents).text(), self.content.machines)
+        return Content.of(dataclasses.replace(self.host.plan, start=start).text(), self.content.machines)
 
     # reports of other machines
 

@@ -53,6 +53,19 @@ class PlanTest(unittest.TestCase):
         with self.assertRaisesRegex(NotAdded, "there are none"):
             gateways.lay_out(PLAN, {"A": ("c0",), "D": ("a0", "a1", "a2")}, ["riga"], 0)
 
+    def test_names_of_gateways(self):
+        """They are in the plan's file, which is then of version 2, and in plans that follow."""
+        self.plan("--gateway", "riga=10.0.0.9:7443", "--spares", "1", "--named")
+        plan = Plan.read(os.path.join(self.made, "plan"))
+        self.assertEqual(plan.labels, ("", "", "", "riga", "riga", "riga", "", "", ""))
+        self.assertEqual(plan.text().splitlines()[0], "ksi-schedule 2")
+        self.assertEqual(plan.text().splitlines()[6], "aggregator 3 parent a0 name riga")
+        self.assertEqual((Content.of(plan.text(), "".join(f"machine {it} {it}:1 {' '.join(its)}\n" for it, its in NODES.items())).plan), plan)
+        self.assertEqual(gateways.lay_out(PLAN, NODES, ["riga"], 1).plan.text().splitlines()[0], "ksi-schedule 1")
+        for end in (" name", " name a b", " name a/b", f" name {'a' * 65}", " nam a"):
+            with self.assertRaises(Broken):
+                Plan.parsed(plan.text().replace(" name riga", end, 1), "the plan")
+
     def test_the_most_gateways(self):
         """4,096 aggregators, three of them on the cores' machines: 1,364 gateways."""
         self.assertEqual(len(gateways.lay_out(PLAN, NODES, [], 1364).plan.parents), 4095)
