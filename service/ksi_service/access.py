@@ -30,7 +30,7 @@ class Caller(NamedTuple):
     is_local: bool
     """Whether it is a process of this machine."""
     signs_as: Optional[str] = None
-    """The name that is hashed with what it has signed."""
+    """The name that is hashed with its hashes."""
 
     @property
     def name(self) -> Optional[str]:
@@ -70,7 +70,7 @@ class Access:
                  names: bool = False) -> None:
         self.clients = clients
         self.names = names
-        """Whether the names of clients are hashed with what they have signed."""
+        """Whether the names of clients are hashed with their hashes."""
         self.proxies: FrozenSet[str] = frozenset(plain(it) for it in proxies)
         self.is_open = is_open
         self.host_names = None if host_names is None else LOOPBACK_NAMES.union(name.lower() for name in host_names)

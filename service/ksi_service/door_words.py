@@ -20,7 +20,7 @@ class DoorWords(NamedTuple):
     key: Optional[str] = None
     access_log: Optional[str] = None
     names: bool = False
-    """Whether the names of clients are hashed with what they have signed."""
+    """Whether the names of clients are hashed with their hashes."""
 
     def clients_in(self, folder: str) -> str:
         return self.clients or os.path.join(folder, "clients")
@@ -59,5 +59,5 @@ def add_door_words(one) -> None:
     one.add_argument("--host-name", action="append", default=listed("KSI_HOST_NAMES"), metavar="NAME", help="a name of the door that clients send as Host; may be given again. Its address and the names of the loopback count too")
     one.add_argument("--door-certificate", default=os.environ.get("KSI_DOOR_CERTIFICATE"), metavar="FILE", help="serve HTTPS with this certificate; it is read again after it changed")
     one.add_argument("--door-key", default=os.environ.get("KSI_DOOR_KEY"), metavar="FILE", help="its key")
-    one.add_argument("--name-clients", action="store_true", default=os.environ.get("KSI_NAME_CLIENTS", "").lower() in ("yes", "1", "true"), help="hash the name of each client with what it has signed: its signatures show the name to everybody")
+    one.add_argument("--name-clients", action="store_true", default=os.environ.get("KSI_NAME_CLIENTS", "").lower() in ("yes", "1", "true"), help="hash the name of each client with its hashes: its signatures show the name to everybody")
     one.add_argument("--access-log", default=os.environ.get("KSI_ACCESS_LOG"), metavar="FILE", help="log each request to this file, as a JSON line")

@@ -100,7 +100,7 @@ class Heartbeat:
             "rests": host.view.rests, "waits": not host.succession.is_begun}]
 
     def report(self) -> Dict[str, Any]:
-        """What gateways are told, the same for all of them."""
+        """The field `seen`, the same for all gateways."""
         if time.monotonic() - self.reported > ALIVE_SECONDS / 2:
             self.reported = time.monotonic()
             self.seen = report_of(self.host.view)

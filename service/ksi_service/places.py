@@ -90,9 +90,9 @@ class Places:
         return {self.machine_of[it] for it in parents if it in self.machine_of} - {self.me}
 
     def below(self, plan: Plan) -> Set[str]:
-        """The gateways that have aggregators right below nodes of this machine."""
+        """The gateways that have aggregators right below nodes of this machine; of a gateway all machines that have."""
         found = {self.machine_of.get(f"a{number}") for number, parent in enumerate(plan.parents) if parent in self.mine}
-        return {it for it in found if it is not None and is_gateway(self.nodes[it])} - {self.me}
+        return {it for it in found if it is not None and (self.is_gateway or is_gateway(self.nodes[it]))} - {self.me}
 
     def neighbours(self, plan: Plan) -> List[str]:
         """The machines that this one talks to: all that are no gateways, unless it is one, and those right above and below."""

@@ -14,6 +14,8 @@ MOST_RESPONSE_SECONDS = 20.0
 """How long it waits at most. While its second is undecided, the response may still come: requests made again would be more load."""
 ANNOUNCED_SECONDS = 0.6
 """How long it takes at most until the other machines know that an aggregator takes no requests."""
+GATEWAYS_SECONDS = 4.0
+"""How long it takes at most until gateways have submitted the requests that they took before they knew that."""
 KEPT_SECONDS = 60
 
 
@@ -123,11 +125,16 @@ class Rounds:
         """Waits until no request waits for an aggregator or for one below it, and other machines know that it takes none. Returns
         whether that is so within this many seconds."""
         end = time.monotonic() + seconds
-        while self.accepts(aggregator) and self.host.peers or self.waits_for(aggregator):
+        while self.accepts(aggregator) and self.host.peers or self.waits_for(aggregator) or self.awaits_gateways(aggregator):
             if time.monotonic() > end:
                 return False
             await asyncio.sleep(0.02)
         return True
+
+    def awaits_gateways(self, aggregator: str) -> bool:
+        """Whether submissions of gateways may still come for an aggregator that takes no more: of requests from before they knew."""
+        has_gateways = any(map(self.host.links.is_of_gateway, self.host.children[aggregator]))
+        return has_gateways and time.monotonic() - self.resting.get(aggregator, 0.0) < GATEWAYS_SECONDS
 
     def waits_for(self, aggregator: str) -> bool:
         number = int(aggregator[1:])
