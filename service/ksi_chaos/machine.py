@@ -162,7 +162,7 @@ def serve(folder, name, notes, control, etc, door, seed):
 
     def make(*of, **options):
         places = Places.read(words.machines, name, of[1])
-        carrier = Troubled(joining.carrier_of(words, name, places, {}), control, noted, dice)
+        carrier = Troubled(joining.carrier_of(words, name, places, of[1], {}), control, noted, dice)
         return Machine(control, noted, seed, *of, places=places, carrier=carrier, **options)
     joining.take_plan(words, folder)
     address, port = door.split(":")
