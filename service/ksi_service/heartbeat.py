@@ -38,6 +38,8 @@ log = logging.getLogger(__name__)
 ALIVE_SECONDS = 0.25
 """How often a heartbeat is sent; to a gateway and by one, each second time."""
 MOST_GAP = 2.0
+LOG_SECONDS = 60.0
+"""How often at most is logged that a gateway takes part or does not."""
 MOST_VERSION = 40
 """How long the version of another machine's program may be. The rest is cut."""
 
@@ -55,7 +57,7 @@ class Fields:
         self.up = {it for it in nodes if it in fields["up"]}
         self.takes = {it for it in nodes if it in fields["takes"]}
         self.next = {it: number_in(fields["next"][it]) for it in nodes if it[0] == "c"}
-        self.program = str(fields.get("program", "unknown"))[:MOST_VERSION]
+        self.program = "".join(it for it in str(fields.get("program", "unknown"))[:MOST_VERSION] if " " <= it <= "~")
         rests = fields.get("rests", {})
         self.rests = {it: number_in(rests[it]) for it in nodes if it in rests}
         self.protocol = number_in(fields["version"])
@@ -84,6 +86,7 @@ class Heartbeat:
         self.taken: Set[str] = set()
         """Machines that take part."""
         self.looked = time.monotonic()
+        self.logged: Dict[str, float] = {}
         self.reported = float("-inf")
         self.seen: Dict[str, Any] = {}
         self.late_since: Dict[str, float] = {}
@@ -159,7 +162,7 @@ class Heartbeat:
 
     def take_part(self, machine: str, told: Fields) -> None:
         self.taken.add(machine)
-        if self.odd.pop(machine, None):
+        if self.odd.pop(machine, None) and self.may_log(machine):
             log.info("%s takes part again", machine)
         if told.waits:
             self.host.succession.answer(machine)
@@ -175,7 +178,16 @@ class Heartbeat:
         self.taken.discard(machine)
         if self.odd.get(machine) != reason:
             self.odd[machine] = reason
-            log.error("%s %s: its messages are not taken", machine, reason)
+            if self.may_log(machine):
+                log.error("%s %s: its messages are not taken", machine, reason)
+
+    def may_log(self, machine: str) -> bool:
+        """Whether what changes about a machine is logged: of a gateway not often, since it may say another thing each time."""
+        now = time.monotonic()
+        if machine in self.host.links.names and now - self.logged.get(machine, float("-inf")) < LOG_SECONDS:
+            return False
+        self.logged[machine] = now
+        return True
 
     def is_current(self, machine: str, told: Fields) -> bool:
         """Guards: whether this machine's record is the last one that the other machine knows, no later run of this host is known to most

@@ -131,6 +131,13 @@ class HostileTest(unittest.TestCase):
         self.assertIn("riga", self.host.heartbeat.odd)
         self.assertEqual(self.send(self.submission(second=NOW + 1)), [])
 
+    def test_a_log_that_a_gateway_would_fill(self):
+        with self.assertLogs("ksi_service.heartbeat", "INFO") as logs:
+            for number in range(9):
+                self.send(self.host.alive(version=100 + number), self.host.alive(program="x\x1b[2J" * 9))
+        self.assertEqual(len(logs.output), 2)
+        self.assertNotIn("\x1b", self.host.peers["riga"].program)
+
     def test_a_gateway_that_closes_late_is_not_waited_for_each_second(self):
         found, waits = Punctual(), []
         for second in range(100):
