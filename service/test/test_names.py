@@ -14,6 +14,7 @@ from ksi_service.access_log import AccessLog
 from ksi_service.carrier import batch_of
 from ksi_service.clients import Client, Clients, Row
 from ksi_service.desk import Batch
+from ksi_service.replay import Schedule
 
 
 class RequestsTest(Hosted):
@@ -28,6 +29,13 @@ class RequestsTest(Hosted):
         lines = [it.line.split(" ") for it in self.steps() if (it.line or "").startswith("request ")]
         self.assertEqual([it[3:] for it in lines[:6]], [*([imprint(number), "archive-17"] for number in range(1, 5)), [imprint(5)], [imprint(6)]])
         self.assertEqual(len(lines), 12)
+
+
+class ReplayTest(unittest.TestCase):
+    def test_a_schedule_with_a_name_is_of_version_2(self):
+        plan = "ksi-schedule 1\ncores 1\nstart 5\naggregator 0 parent c0\n"
+        request = f"request 0 5 {imprint(1)}"
+        self.assertEqual([Schedule(plan, events=[it]).text().splitlines()[0] for it in (request, f"{request} bob")], ["ksi-schedule 1", "ksi-schedule 2"])
 
 
 class AskedTest(unittest.TestCase):
