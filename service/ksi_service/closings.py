@@ -39,7 +39,8 @@ class Closings:
         return is_here
 
     def machine_above(self, aggregator: str) -> str:
-        return self.host.places.machine_of[self.host.plan.parents[int(aggregator[1:])]]
+        """The machine of the node above an aggregator, or no name if that has none."""
+        return self.host.places.machine_of.get(self.host.plan.parents[int(aggregator[1:])], "")
 
     async def wait(self, aggregators: Iterable[str], second: int) -> None:
         """Waits until these rounds are closed, if their aggregators are up."""
