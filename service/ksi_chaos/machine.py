@@ -96,6 +96,12 @@ class Troubled:
         await asyncio.sleep(self.dice.random())
         await self.carrier.send(machine, batch, patience)
 
+    def add(self, machine, address, limit=None):
+        self.carrier.add(machine, address, limit)
+
+    def remove(self, machine):
+        self.carrier.remove(machine)
+
     def reachable(self):
         return self.carrier.reachable()
 
@@ -156,7 +162,7 @@ def serve(folder, name, notes, control, etc, door, seed):
 
     def make(*of, **options):
         places = Places.read(words.machines, name, of[1])
-        carrier = Troubled(joining.carrier_of(words, name, places, {}), control, noted, dice)
+        carrier = Troubled(joining.carrier_of(words, name, places, of[1], {}), control, noted, dice)
         return Machine(control, noted, seed, *of, places=places, carrier=carrier, **options)
     joining.take_plan(words, folder)
     address, port = door.split(":")

@@ -10,6 +10,7 @@ from typing import FrozenSet, Iterable, NamedTuple, Optional
 from .answers import Refusal
 from .clients import Client, Clients
 from .errors import NeedsOperator
+from .plan import NAME
 from .routes import Route
 
 LOOPBACK_NAMES = frozenset(["localhost", "127.0.0.1", "::1"])
@@ -28,6 +29,8 @@ class Caller(NamedTuple):
     client: Optional[Client]
     is_local: bool
     """Whether it is a process of this machine."""
+    signs_as: Optional[str] = None
+    """The name that is hashed with its hashes."""
 
     @property
     def name(self) -> Optional[str]:
@@ -63,8 +66,11 @@ def name_in(host: str) -> str:
 
 
 class Access:
-    def __init__(self, clients: Optional[Clients] = None, proxies: Iterable[str] = (), is_open: bool = False, host_names: Optional[Iterable[str]] = ()) -> None:
+    def __init__(self, clients: Optional[Clients] = None, proxies: Iterable[str] = (), is_open: bool = False, host_names: Optional[Iterable[str]] = (),
+                 names: bool = False) -> None:
         self.clients = clients
+        self.names = names
+        """Whether the names of clients are hashed with their hashes."""
         self.proxies: FrozenSet[str] = frozenset(plain(it) for it in proxies)
         self.is_open = is_open
         self.host_names = None if host_names is None else LOOPBACK_NAMES.union(name.lower() for name in host_names)
@@ -91,7 +97,12 @@ class Access:
             self.see_host(request.host, writer.get_extra_info("sockname")[0])
         address = forwarded(request.headers) if is_proxied else peer
         is_local = is_loopback(address)
-        return Caller(address, self.client_of(request, route, is_local, is_proxied), is_local)
+        client = self.client_of(request, route, is_local, is_proxied)
+        return Caller(address, client, is_local, self.name_of(client))
+
+    def name_of(self, client: Optional[Client]) -> Optional[str]:
+        """The name of a client that signs by name. A name with `@` is none in a tree."""
+        return client.name if self.names and client and NAME.fullmatch(client.name) else None
 
     def see_host(self, host: str, own: str) -> None:
         if self.host_names is None or not host:

@@ -205,6 +205,9 @@ def make(sources: Union[str, Sequence[str]], out: str, last: int, say: Callable 
     for path in paths:
         if is_backup(path):
             backup.add_backup(path)
+    if not backup.made and backup.reason is None and folders and is_of_gateway(folders):
+        say("a gateway has no core: its plan and its record are saved, and the mirrors are in the backups of the cores' machines")
+        return
     if not backup.made:
         raise backup.reason or NotSaved(f"none of {' '.join(paths)} has a core")
     try:
@@ -215,6 +218,12 @@ def make(sources: Union[str, Sequence[str]], out: str, last: int, say: Callable 
         # of seconds that they forgot cores keep the root alone
         items.add_lists(backup, folders)
         backup.make_journals(absent)
+
+
+def is_of_gateway(paths: List[str]) -> bool:
+    """Whether folders have aggregators and no core."""
+    nodes = Folders(paths).of_node
+    return bool(nodes) and all(it[0] == "a" for it in nodes)
 
 
 def whole(mirror: str, journal: str) -> str:

@@ -7,7 +7,7 @@ import asyncio
 import collections
 import json
 import time
-from typing import Any, Callable, Deque, Dict, Iterable, List, Protocol
+from typing import Any, Callable, Deque, Dict, Iterable, List, NamedTuple, Optional, Protocol
 
 from .messages import is_of_vote
 
@@ -24,6 +24,17 @@ LEAST_PATIENCE, MOST_PATIENCE = 1.5, 10.0
 """For how many seconds a batch may be in flight: five times as long as batches usually take, within these bounds."""
 
 
+class Limit(NamedTuple):
+    """How much is taken of a machine that is not trusted."""
+
+    bytes: int
+    """The largest batch."""
+    rate: float
+    """How many batches a second."""
+    most: int
+    """How many batches at once after a pause."""
+
+
 class Carrier(Protocol):
     """The network, as the host needs it."""
 
@@ -37,6 +48,12 @@ class Carrier(Protocol):
     async def send(self, machine: str, batch: bytes, patience: float) -> bool:
         """Sends a batch to a machine. Returns whether that machine's host received it within `patience` seconds. Never raises for a
         machine that cannot be reached. The host sends a machine one batch at a time."""
+
+    def add(self, machine: str, address: str, limit: Optional[Limit] = None) -> None:
+        """Reaches another machine too, and takes its batches; within a limit, if there is one."""
+
+    def remove(self, machine: str) -> None:
+        """Takes nothing more of a machine."""
 
     def reachable(self) -> Iterable[str]:
         """The machines to which a connection is open, as far as the carrier knows. Shown by `status`; nothing depends on it."""
@@ -89,14 +106,16 @@ class Outbox:
     def __init__(self, carrier: Carrier, machines: Iterable[str]) -> None:
         self.carrier = carrier
         self.queues: Dict[str, Queue] = {it: Queue() for it in machines}
+        self.serving: Dict[str, asyncio.Task] = {}
+        self.has_changed = asyncio.Event()
         self.sent = 0
         self.lost = 0
         self.batches = 0
 
     def send(self, machine: str, message: Message) -> None:
         """Queues a message, also for a machine that seems to be away: it may only be slow."""
-        queue = self.queues[machine]
-        if len(queue) >= MOST_WAITING:
+        queue = self.queues.get(machine)
+        if queue is None or len(queue) >= MOST_WAITING:
             self.lost += 1
             return
         queue.add(message)
@@ -106,7 +125,34 @@ class Outbox:
         return self.queues[machine].usual
 
     async def run(self) -> None:
-        await asyncio.gather(*(self.serve(machine) for machine in self.queues))
+        """Serves all machines, also those that are added."""
+        try:
+            while True:
+                self.has_changed.clear()
+                self.serving.update({it: asyncio.create_task(self.serve(it)) for it in self.queues if it not in self.serving})
+                changed = asyncio.create_task(self.has_changed.wait())
+                done, _ = await asyncio.wait([changed, *self.serving.values()], return_when=asyncio.FIRST_COMPLETED)
+                changed.cancel()
+                for task in done - {changed}:
+                    if not task.cancelled():
+                        task.result()
+        finally:
+            for task in self.serving.values():
+                task.cancel()
+            await asyncio.gather(*self.serving.values(), return_exceptions=True)
+
+    def add(self, machine: str) -> None:
+        """Messages may be sent to another machine too."""
+        self.queues.setdefault(machine, Queue())
+        self.has_changed.set()
+
+    def remove(self, machine: str) -> None:
+        """What waits for a machine is lost."""
+        self.queues.pop(machine, None)
+        task = self.serving.pop(machine, None)
+        if task is not None:
+            task.cancel()
+        self.has_changed.set()
 
     async def serve(self, machine: str) -> None:
         """Sends the queued messages of one machine."""

@@ -4,13 +4,15 @@ Who sends is the common name of the certificate that the other side of the conne
 reaches is checked before it is sent: the certificate there must have the machine's name. A batch is the body of a `POST /lines`."""
 import asyncio
 import collections
+import contextlib
 import logging
 import socket
 import ssl
 from typing import Any, Deque, Dict, Iterable, List, NamedTuple, Optional, Set, Tuple
 
-from .carrier import MOST_BYTES, MOST_PATIENCE, Take
+from .carrier import MOST_BYTES, MOST_PATIENCE, Limit, Take
 from .errors import MissingPackage, ServiceError
+from .shares import Share
 
 try:
     import aiohttp
@@ -84,7 +86,12 @@ class Addresses(abc.AbstractResolver):
     """Resolves a machine's name to the address that the file of machines has for it, so that TLS checks the name."""
 
     def __init__(self, addresses: Dict[str, str]) -> None:
-        self.hosts = {machine.lower(): parts_of(address)[0] for machine, address in addresses.items()}
+        self.hosts: Dict[str, str] = {}
+        for machine, address in addresses.items():
+            self.add(machine, address)
+
+    def add(self, machine: str, address: str) -> None:
+        self.hosts[machine.lower()] = parts_of(address)[0]
 
     async def resolve(self, host: str, port: int = 0, family: int = socket.AF_UNSPEC) -> List[Dict[str, Any]]:
         found = await asyncio.get_running_loop().getaddrinfo(self.hosts[host.lower()], port, type=socket.SOCK_STREAM)
@@ -113,8 +120,10 @@ class Connection(web_protocol.RequestHandler):
         self.carrier.closed(self)
 
     def abort(self) -> None:
-        if self.transport is not None:
-            self.transport.abort()
+        # Python 3.11 raises AttributeError for a connection that was closed twice
+        with contextlib.suppress(AttributeError):
+            if self.transport is not None:
+                self.transport.abort()
 
 
 class HttpsCarrier:
@@ -132,6 +141,11 @@ class HttpsCarrier:
         self.manager: Optional[web.Server] = None
         self.session: Optional[aiohttp.ClientSession] = None
         self.connections: Dict[str, Deque[Connection]] = {it: collections.deque() for it in addresses if it != me}
+        self.resolver: Optional[Addresses] = None
+        self.limits: Dict[str, int] = {}
+        """The largest batch of machines that have a limit."""
+        self.shares: Dict[str, Share] = {}
+        """How many batches are taken of these."""
         self.handshakes: Set[object] = set()
         self.received: Set[str] = set()
         """The machines that received the last batch for them."""
@@ -153,7 +167,8 @@ class HttpsCarrier:
             self.server = await loop.create_server(self.accepted, host, port, ssl=self.there, ssl_handshake_timeout=HANDSHAKE_SECONDS, backlog=MOST_HANDSHAKES)
         except OSError as error:
             raise ServiceError(f"cannot listen for other machines at {self.addresses[self.me]}: {error.strerror or error}") from None
-        connector = aiohttp.TCPConnector(ssl=self.here, resolver=Addresses(self.addresses), use_dns_cache=False, limit=0, limit_per_host=1, keepalive_timeout=KEEP_SECONDS)
+        self.resolver = Addresses(self.addresses)
+        connector = aiohttp.TCPConnector(ssl=self.here, resolver=self.resolver, use_dns_cache=False, limit=0, limit_per_host=1, keepalive_timeout=KEEP_SECONDS)
         self.session = aiohttp.ClientSession(connector=connector, cookie_jar=aiohttp.DummyCookieJar(), auto_decompress=False)
 
     def accepted(self) -> Connection:
@@ -196,8 +211,11 @@ class HttpsCarrier:
             kept.remove(connection)
 
     async def on_request(self, request: web.BaseRequest) -> web.StreamResponse:
-        """A batch of the machine whose connection it is."""
+        """A batch of the machine whose connection it is. Of a machine that is over its share, the next one is read later."""
         batch = None
+        share = self.shares.get(request.protocol.machine)
+        if share is not None:
+            await asyncio.sleep(share.wait())
         if (request.method, request.raw_path) == ("POST", "/lines"):
             batch = await self.batch_in(request)
         if batch is not None and not self.is_over and self.is_taken(request.protocol.machine, batch):
@@ -217,7 +235,8 @@ class HttpsCarrier:
 
     async def batch_in(self, request: web.BaseRequest) -> Optional[bytes]:
         """The body of a request, or None if it is too large or takes too long."""
-        if request.content_length is None or request.content_length > MOST_BYTES:
+        most = self.limits.get(request.protocol.machine, MOST_BYTES)
+        if request.content_length is None or request.content_length > most:
             return None
         try:
             return await asyncio.wait_for(request.content.read(), MOST_PATIENCE)
@@ -254,6 +273,23 @@ class HttpsCarrier:
         if fault is not None and self.faults.get(machine) != fault:
             self.faults[machine] = fault
             log.error("no TLS connection to %s: %s", machine, fault)
+
+    def add(self, machine: str, address: str, limit: Optional[Limit] = None) -> None:
+        self.addresses[machine] = address
+        self.strangers.discard(machine)
+        self.connections.setdefault(machine, collections.deque())
+        if self.resolver is not None:
+            self.resolver.add(machine, address)
+        if limit is not None:
+            self.limits[machine] = limit.bytes
+            self.shares[machine] = Share(limit.rate, limit.most)
+
+    def remove(self, machine: str) -> None:
+        for connection in list(self.connections.pop(machine, ())):
+            connection.abort()
+        for kept in (self.limits, self.shares, self.faults):
+            kept.pop(machine, None)
+        self.received.discard(machine)
 
     def reachable(self) -> Iterable[str]:
         return sorted(self.received | {machine for machine, kept in self.connections.items() if kept})

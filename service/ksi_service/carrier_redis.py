@@ -8,7 +8,7 @@ import logging
 import time
 from typing import Dict, Iterable, List, Optional, Tuple
 
-from .carrier import MOST_BYTES, Take
+from .carrier import MOST_BYTES, Limit, Take
 from .errors import MissingPackage, ServiceError
 
 try:
@@ -72,7 +72,7 @@ class RedisCarrier:
         while True:
             try:
                 await self.see_ends()
-                for stream, entries in await self.client.xread(self.places, count=MOST_AT_ONCE, block=BLOCK_MILLISECONDS):
+                for stream, entries in await self.client.xread(dict(self.places), count=MOST_AT_ONCE, block=BLOCK_MILLISECONDS):
                     self.received(stream.decode(), entries, take)
                 self.note(None)
             except (redis.RedisError, OSError, asyncio.TimeoutError) as reason:
@@ -81,13 +81,15 @@ class RedisCarrier:
 
     async def see_ends(self) -> None:
         """Begins at the end of each stream: batches from before this machine was started are of no use."""
-        for stream, place in self.places.items():
+        for stream, place in list(self.places.items()):
             if place == "$":
                 last = await self.client.xrevrange(stream, count=1)
                 self.places[stream] = last[0][0].decode() if last else "0"
 
     def received(self, stream: str, entries: List[Tuple[bytes, Dict[bytes, bytes]]], take: Take) -> None:
         machine = stream.split(":")[1]
+        if stream not in self.places:
+            return
         for place, fields in entries:
             self.places[stream] = place.decode()
             batch = fields.get(b"batch", b"")
@@ -108,6 +110,13 @@ class RedisCarrier:
         if reason is None and self.is_away:
             log.info("the server is there again")
         self.is_away = reason is not None
+
+    def add(self, machine: str, address: str, limit: Optional[Limit] = None) -> None:
+        """Whoever runs the server limits what it takes."""
+        self.places.setdefault(f"ksi:{machine}:{self.me}", "$")
+
+    def remove(self, machine: str) -> None:
+        self.places.pop(f"ksi:{machine}:{self.me}", None)
 
     def reachable(self) -> Iterable[str]:
         now = time.monotonic()

@@ -9,6 +9,7 @@ import subprocess
 from typing import Optional, Sequence
 
 from . import files
+from .places import text_for
 from .errors import ServiceError
 
 DAYS = 3650
@@ -51,20 +52,68 @@ def make_certificate(folder: str, machine: str, days: int = DAYS, authority: Opt
     made = os.path.join(folder, machine)
     authority = authority or folder
     files.make_folder(made)
-    openssl("req", "-x509", *KEY, "-days", str(days), "-CA", os.path.join(authority, "authority.crt"), "-CAkey", os.path.join(authority, "authority.key"),
+    certify(authority, machine, days, os.path.join(made, f"{machine}.crt"), *KEY, "-keyout", os.path.join(made, f"{machine}.key"))
+    copy_files(folder, machine, authority)
+
+
+def certify(authority: str, machine: str, days: int, out: str, *words: str) -> None:
+    """Makes a certificate for a machine's name, for a new key or that of a request."""
+    openssl("req", "-x509", *words, "-days", str(days), "-CA", os.path.join(authority, "authority.crt"), "-CAkey", os.path.join(authority, "authority.key"),
             "-subj", f"/CN={machine}", "-addext", "basicConstraints=critical,CA:FALSE", "-addext", f"subjectAltName=DNS:{machine}",
-            "-addext", "extendedKeyUsage=serverAuth,clientAuth", "-keyout", os.path.join(made, f"{machine}.key"), "-out", os.path.join(made, f"{machine}.crt"))
+            "-addext", "extendedKeyUsage=serverAuth,clientAuth", "-out", out)
+
+
+def copy_files(folder: str, machine: str, authority: str) -> None:
+    """Copies the other files that a machine needs to its folder. A gateway's file of machines has no other gateways."""
     for name in ("plan", "machines", "succeeds", "authority.crt"):
-        content = files.content_of(os.path.join(authority if name == "authority.crt" else folder, name))
+        path = os.path.join(authority if name == "authority.crt" else folder, name)
+        content = text_for(path, machine) if name == "machines" else files.content_of(path)
         if content is not None:
-            files.write(os.path.join(made, name), content)
+            files.write(os.path.join(folder, machine, name), content)
+
+
+def make_request(folder: str, machine: str) -> str:
+    """Makes MACHINE.key, which only its user can read, and the request MACHINE.csr. Returns the path of the request."""
+    see_name(machine)
+    files.make_folder(folder)
+    key, request = (os.path.join(folder, f"{machine}.{end}") for end in ("key", "csr"))
+    if os.path.lexists(key):
+        raise NotCertified(f"{key} is there already, and is not replaced")
+    openssl("req", "-new", *KEY, "-subj", f"/CN={machine}", "-keyout", key, "-out", request)
+    return request
+
+
+def sign_request(folder: str, machine: str, request: str, days: int = DAYS) -> None:
+    """Makes the folder of a machine, without a key: its certificate by a request, and the other files that it needs. Of the request only
+    the key is used, and the name compared."""
+    see_names(folder, [machine])
+    if not os.path.exists(request):
+        raise NotCertified(f"{request}: no such file; `ksi-service certificates OUT {machine} --request` makes it on that machine")
+    subject = openssl("req", "-in", request, "-verify", "-noout", "-subject", "-nameopt", "multiline")
+    if common_name_in(subject) != machine:
+        raise NotCertified(f"{request} is not a request of {machine}, but of '{common_name_in(subject)}'")
+    if not os.path.exists(os.path.join(folder, "authority.key")):
+        raise NotCertified(f"{folder} has no authority.key: sign where `ksi-service certificates` made it")
+    files.make_folder(os.path.join(folder, machine))
+    certify(folder, machine, days, os.path.join(folder, machine, f"{machine}.crt"), "-in", request)
+    copy_files(folder, machine, folder)
+
+
+def see_name(machine: str) -> None:
+    if not NAME.fullmatch(machine):
+        raise NotCertified(f"'{machine}' is not a machine's name: letters, digits and '-', a letter first")
+
+
+def common_name_in(subject: str) -> Optional[str]:
+    """The common name in a subject as openssl prints it on several lines."""
+    found = re.search(r"(?m)^\s*commonName\s*= (.*)$", subject)
+    return found[1] if found else None
 
 
 def see_names(folder: str, machines: Sequence[str]) -> None:
     """Whether these are names of machines that have no certificate here yet."""
     for machine in machines:
-        if not NAME.fullmatch(machine):
-            raise NotCertified(f"'{machine}' is not a machine's name: letters, digits and '-', a letter first")
+        see_name(machine)
         if os.path.lexists(os.path.join(folder, machine)):
             raise NotCertified(f"{os.path.join(folder, machine)} is there already, and is not replaced")
     if len({it.lower() for it in machines}) < len(machines):
@@ -85,7 +134,7 @@ def name_of(certificate: str) -> str:
     if not os.path.exists(certificate):
         raise NotCertified(f"{certificate}: no such file; `ksi-service certificates` makes it")
     subject = openssl("x509", "-in", certificate, "-noout", "-subject", "-nameopt", "multiline")
-    found = re.search(r"(?m)^\s*commonName\s*= (.*)$", subject)
-    if not found or not NAME.fullmatch(found[1]):
+    found = common_name_in(subject)
+    if found is None or not NAME.fullmatch(found):
         raise NotCertified(f"{certificate} has no machine's name as its common name")
-    return found[1]
+    return found

@@ -203,7 +203,7 @@ def use(folders: Folders, signatures, publications: Publications, last: int, aud
     is short enough. Returns how many were extended and audited."""
     extended = audited = 0
     with tempfile.TemporaryDirectory(prefix="ksi-check-") as room:
-        if last - folders.plan.start >= MOST_AUDITED or folders.missing:
+        if last - folders.plan.start >= MOST_AUDITED or len(folders.cores) < folders.plan.cores:
             audits = 0
         if audits:
             backup.make(folders.paths, room, last, say=lambda text: None)

@@ -1,6 +1,8 @@
 """Which rounds of a second are closed. The node above an aggregator waits for that, but not for long."""
 import asyncio
-from typing import Dict, Iterable, Union
+from typing import Dict, Iterable, List, Union
+
+from .gateway_links import CLOSE_SECONDS as CLOSE_SECONDS_GATEWAY
 
 CLOSE_SECONDS, CLOSE_SECONDS_HERE = 0.4, 1.5
 """How long the node above waits for aggregators of other machines, and for those of this one."""
@@ -9,6 +11,8 @@ KEPT_SECONDS = 60
 
 
 class Closings:
+    """For a gateway's rounds the node above waits less long, and not at all if they were late several times (gateway_links.py)."""
+
     def __init__(self, host) -> None:
         self.host = host
         self.seconds: Dict[int, Dict[str, Union[bool, asyncio.Future]]] = {}
@@ -35,14 +39,25 @@ class Closings:
         return is_here
 
     def machine_above(self, aggregator: str) -> str:
-        return self.host.places.machine_of[self.host.plan.parents[int(aggregator[1:])]]
+        """The machine of the node above an aggregator, or no name if that has none."""
+        return self.host.places.machine_of.get(self.host.plan.parents[int(aggregator[1:])], "")
 
     async def wait(self, aggregators: Iterable[str], second: int) -> None:
         """Waits until these rounds are closed, if their aggregators are up."""
-        here, others = [], []
+        links = self.host.links
+        here, others, gateways = [], [], []
         for it in aggregators:
-            (here if it in self.host.nodes else others).append(it)
-        await asyncio.gather(self.wait_for(here, second, CLOSE_SECONDS_HERE), self.wait_for(others, second, CLOSE_SECONDS))
+            (here if it in self.host.nodes else gateways if links.is_of_gateway(it) else others).append(it)
+        await asyncio.gather(self.wait_for(here, second, CLOSE_SECONDS_HERE), self.wait_for(others, second, CLOSE_SECONDS), self.wait_for_gateways(gateways, second))
+
+    async def wait_for_gateways(self, aggregators: List[str], second: int) -> None:
+        links = self.host.links
+        found = [it for it in aggregators if links.punctual.is_waited_for(it, second) and self.host.view.is_up(it)]
+        if found:
+            await self.wait_for(found, second, CLOSE_SECONDS_GATEWAY * max(map(links.height, found)))
+            waits = self.seconds.get(second, {})
+            for it in found:
+                links.punctual.note(it, second, waits.get(it) is True)
 
     async def wait_for(self, aggregators: Iterable[str], second: int, seconds: float) -> None:
         waits = self.seconds.setdefault(second, {})

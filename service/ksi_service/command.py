@@ -1,11 +1,11 @@
 """The command `ksi-service`. Its commands are in `command_running.py`, `command_asking.py`, `command_stopped.py`,
-`command_clients.py`, `machines.py` and `command_mirror.py`."""
+`command_clients.py`, `machines.py`, `command_gateways.py` and `command_mirror.py`."""
 import argparse
 import os
 import sqlite3
 import sys
 
-from . import command_asking, command_clients, command_mirror, command_running, command_stopped, machines
+from . import command_asking, command_clients, command_gateways, command_mirror, command_running, command_stopped, machines
 from .command_words import positive
 from .errors import ServiceError
 from .version import PROTOCOL, version
@@ -20,6 +20,7 @@ def parser_of():
     command_stopped.add_commands(commands)
     command_clients.add_commands(commands)
     machines.add_commands(commands, positive)
+    command_gateways.add_commands(commands)
     command_mirror.add_commands(commands)
     return parser
 

@@ -18,6 +18,8 @@ LOOK_SECONDS = 0.05
 """How often is looked which aggregators take requests."""
 MINORITY_SECONDS = 0.5
 """After this time without a majority of the cores, requests are refused: with the pauses between looks, within a second."""
+MINORITY_SECONDS_GATEWAY = 0.25
+"""The same of a gateway, which notices later that others are away."""
 SWEEP_SECONDS = 0.25
 
 
@@ -36,9 +38,11 @@ class Over(ServiceError):
 class Batch:
     """Hashes that are signed together, and the signatures so far."""
 
-    def __init__(self, imprints: List[str]) -> None:
+    def __init__(self, imprints: List[str], name: Optional[str] = None) -> None:
         self.imprints = imprints
         """The 64 hex digits of each."""
+        self.name = name
+        """The name that is hashed with each, if there is one."""
         self.found: List[Optional[Tuple[str, int]]] = [None] * len(imprints)
         """The signature of each hash in hex, with its second."""
 
@@ -100,9 +104,16 @@ class Desk:
         self.places: Dict[int, Place] = {}
         self.placed = asyncio.get_running_loop().create_future()
         """Done once there are places: all requests that wait for one are woken together."""
-        self.has_majority = not host.peers
+        self.minority_seconds = MINORITY_SECONDS_GATEWAY if host.places.is_gateway else MINORITY_SECONDS
+        homes = [host.places.mine] if host.places.is_gateway else host.places.full.values()
+        near = {it for its in homes for it in its}
+        self.below = {core: [it for it in numbers if f"a{it}" in near] for core, numbers in self.plan.below.items()}
+        """The aggregators below each core to which requests go: a gateway's own ones, or those of all machines but gateways."""
+        self.above = {above for numbers in self.below.values() for it in numbers for above in self.plan.ways[it]}
+        """These, and all between them and their cores."""
+        self.has_majority = not host.trusted
         """Whether requests are taken. Of several machines not before a majority was seen: the door is open by then."""
-        self.majority_seen = float("-inf") if host.peers else time.monotonic()
+        self.majority_seen = float("-inf") if host.trusted else time.monotonic()
         self.signed = 0
         self.again = 0
         self.busy = 0
@@ -145,7 +156,7 @@ class Desk:
             if is_on("left") and is_gone():
                 break
             left = batch.left()
-            for place, text in zip(left, await self.ask([batch.imprints[it] for it in left], second, aggregator, is_gone)):
+            for place, text in zip(left, await self.ask([batch.imprints[it] for it in left], second, aggregator, is_gone, batch.name)):
                 if text is not None:
                     batch.found[place] = text, second
                     self.signed += 1
@@ -180,7 +191,7 @@ class Desk:
     def comes_late(self, leader: int, second: int) -> bool:
         """Whether a request would reach the leader's machine only when the rounds of the second are closed, by how long batches take."""
         machine = self.host.places.machine_of[f"c{leader}"]
-        if machine == self.host.places.me or not is_on("ahead"):
+        if machine == self.host.places.me or self.host.places.is_gateway or not is_on("ahead"):
             return False
         return self.host.now() + min(2.0, 2 * self.host.outbox.usual(machine)) > second + 1
 
@@ -205,7 +216,7 @@ class Desk:
         may_sign = self.host.view.is_majority() and not self.host.view.is_off(self.host.places.me)
         if may_sign:
             self.majority_seen = now
-        self.has_majority = now - self.majority_seen < MINORITY_SECONDS
+        self.has_majority = now - self.majority_seen < self.minority_seconds
         self.places = self.places_now() if may_sign else {}
         if self.places or not self.has_majority or self.host.now() > self.host.last_second + 1:
             placed = self.placed
@@ -215,12 +226,12 @@ class Desk:
     def places_now(self) -> Dict[int, Place]:
         view = self.host.view
         first = int(self.host.now())
-        taking = {it for it in range(len(self.plan.parents)) if view.takes(f"a{it}")}
+        taking = {it for it in self.above if view.takes(f"a{it}")}
         places = {}
         for second in range(first, min(first + self.plan.cores, self.host.last_second) + 1):
-            leader = next((it for it in view.order(second) if self.plan.below[it]), None)
-            if leader is not None and view.leads(leader, second):
-                up = [f"a{it}" for it in self.plan.below[leader] if taking.issuperset(self.plan.ways[it])]
+            leader = view.leader(second)
+            if leader is not None:
+                up = [f"a{it}" for it in self.below[leader] if taking.issuperset(self.plan.ways[it])]
                 if second < self.host.rounds.next:
                     # the rounds of this machine are closed
                     up = [it for it in up if it not in self.host.nodes]
@@ -228,7 +239,7 @@ class Desk:
                     places[second] = Place(leader, up)
         return places
 
-    async def ask(self, imprints: List[str], second: int, aggregator: str, is_gone: Callable[[], bool]) -> List[Optional[str]]:
+    async def ask(self, imprints: List[str], second: int, aggregator: str, is_gone: Callable[[], bool], name: Optional[str] = None) -> List[Optional[str]]:
         """The signatures that an aggregator gives, each or None."""
         machine = self.host.places.machine_of[aggregator]
         answers = Answers(len(imprints))
@@ -239,10 +250,10 @@ class Desk:
             for place in range(len(imprints)):
                 self.pending[first + place] = Pending(answers, place, machine, aggregator, until, is_gone)
             if machine == self.host.places.me:
-                self.host.rounds.ask_all(machine, first, second, aggregator, imprints)
+                self.host.rounds.ask_all(machine, first, second, aggregator, imprints, name)
             else:
                 for ask, imprint in enumerate(imprints, first):
-                    self.host.send(machine, ["ask", ask, second, aggregator, imprint])
+                    self.host.send(machine, ["ask", ask, second, aggregator, imprint, *([name] if name else [])])
             return await answers.all
         finally:
             for ask in range(first, first + len(imprints)):

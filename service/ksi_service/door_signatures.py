@@ -90,7 +90,7 @@ class Signatures:
             self.house.admit()
         request.imprints = await read(request)
         request.caller.take(len(request.imprints))
-        found = await self.house.sign(request.imprints, request.connection.reader.at_eof)
+        found = await self.house.sign(request.imprints, request.connection.reader.at_eof, request.caller.signs_as)
         request.second = max((it.second for it in found if isinstance(it, Signed)), default=None)
         return found
 

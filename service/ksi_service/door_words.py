@@ -19,13 +19,15 @@ class DoorWords(NamedTuple):
     certificate: Optional[str] = None
     key: Optional[str] = None
     access_log: Optional[str] = None
+    names: bool = False
+    """Whether the names of clients are hashed with their hashes."""
 
     def clients_in(self, folder: str) -> str:
         return self.clients or os.path.join(folder, "clients")
 
     def access(self, folder: str) -> Access:
         try:
-            return Access(Clients(self.clients_in(folder)), self.proxies, self.is_open, self.host_names)
+            return Access(Clients(self.clients_in(folder)), self.proxies, self.is_open, self.host_names, self.names)
         except ValueError as fault:
             raise Failed(f"--trusted-proxy: {fault}") from None
 
@@ -42,7 +44,7 @@ class DoorWords(NamedTuple):
 def words_of(words) -> DoorWords:
     if bool(words.door_certificate) != bool(words.door_key):
         raise Failed("--door-certificate and --door-key go together")
-    return DoorWords(words.clients, tuple(words.trusted_proxy), words.open_door, tuple(words.host_name), words.door_certificate, words.door_key, words.access_log)
+    return DoorWords(words.clients, tuple(words.trusted_proxy), words.open_door, tuple(words.host_name), words.door_certificate, words.door_key, words.access_log, words.name_clients)
 
 
 def listed(name: str) -> List[str]:
@@ -57,4 +59,5 @@ def add_door_words(one) -> None:
     one.add_argument("--host-name", action="append", default=listed("KSI_HOST_NAMES"), metavar="NAME", help="a name of the door that clients send as Host; may be given again. Its address and the names of the loopback count too")
     one.add_argument("--door-certificate", default=os.environ.get("KSI_DOOR_CERTIFICATE"), metavar="FILE", help="serve HTTPS with this certificate; it is read again after it changed")
     one.add_argument("--door-key", default=os.environ.get("KSI_DOOR_KEY"), metavar="FILE", help="its key")
+    one.add_argument("--name-clients", action="store_true", default=os.environ.get("KSI_NAME_CLIENTS", "").lower() in ("yes", "1", "true"), help="hash the name of each client with its hashes: its signatures show the name to everybody")
     one.add_argument("--access-log", default=os.environ.get("KSI_ACCESS_LOG"), metavar="FILE", help="log each request to this file, as a JSON line")

@@ -98,7 +98,7 @@ class Driver:
     def pause(self, is_old: bool) -> float:
         """How long a ballot is waited for: at least three times as long as ballots take. Otherwise, on slow disks or after a standstill,
         repeated ballots would keep each other from ending, and would be the load that delays them."""
-        least = PAUSE if self.host.peers else PAUSE_ALONE
+        least = PAUSE if self.host.trusted else PAUSE_ALONE
         return min(MOST_PAUSE, max(OLD_FACTOR * least if is_old else least, 3 * self.core.took))
 
     async def decide(self, second: int, began: float) -> None:

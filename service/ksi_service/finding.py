@@ -49,7 +49,7 @@ class Finding:
             found = await self.indexing.find(imprint)
         except NotIndexed as fault:
             found, reason = None, str(fault)
-        if found is None and self.host.peers:
+        if found is None and self.others():
             asking = await self.ask_others(imprint)
             found = next((it for it in asking.told.values() if isinstance(it, Found)), None)
             silent = [name for name, it in asking.told.items() if it is False]
@@ -62,15 +62,19 @@ class Finding:
         of = " in this plan; earlier plans are not searched" if self.host.succession.before else ""
         raise Refusal("signature-unknown", f"the service has no signature of this hash{of}")
 
+    def others(self) -> List[str]:
+        """The machines that are asked: no gateways, since only a gateway's own clients ask it, and no others by it."""
+        return [] if self.host.places.is_gateway else list(self.host.trusted)
+
     async def ask_others(self, imprint: str) -> Asking:
-        asking = Asking(list(self.host.peers))
+        asking = Asking(self.others())
         if len(self.asked) >= MOST_ASKED:
             return asking
         self.number += 1
         number = self.number
         self.asked[number] = asking
         try:
-            for machine in self.host.peers:
+            for machine in asking.told:
                 self.host.send(machine, ["find", number, imprint])
             await asyncio.wait([asking.done], timeout=ANSWER_SECONDS)
         finally:

@@ -1,11 +1,11 @@
 """The folders of a plan's machines, read as one run while no service runs over them."""
 import os
-from typing import Dict, Iterator, List, Sequence, Union
+from typing import Dict, Iterator, List, Sequence, Set, Union
 
 from . import files, merging
 from .errors import ServiceError
 from .plan import Plan
-from .record import told
+from .record import Step, told
 
 
 class NotOneRun(ServiceError):
@@ -55,9 +55,17 @@ class Folders:
         return len(self.paths) == 1 and bool(self.missing) and bool(self.of_node)
 
     def see_all(self) -> None:
-        """Raises NotOneRun if no folder has one of the plan's nodes."""
-        if self.missing:
-            raise NotOneRun(f"no folder has the facts of {' '.join(self.missing)}: name the folders of all machines, or check each alone by --by-node and compare digests")
+        """Raises NotOneRun if no folder has one of the plan's nodes, unless it is an aggregator without a machine: nodes took nothing of it."""
+        missing = self.missing
+        if missing and all(it[0] == "a" for it in missing):
+            missing = sorted(self.senders() & set(missing))
+        if missing:
+            raise NotOneRun(f"no folder has the facts of {' '.join(missing)}: name the folders of all machines, or check each alone by --by-node and compare digests")
+
+    def senders(self) -> Set[str]:
+        """The aggregators of which nodes took submissions."""
+        lines = (it.line or "" for record in self.records for it in told(record) if isinstance(it, Step))
+        return {f"a{line.split(' ')[1]}" for line in lines if line.startswith("submission ")}
 
     def entries(self) -> Iterator[object]:
         """The steps of all records and the signatures that were handed out, in an order of causes."""

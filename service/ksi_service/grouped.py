@@ -1,18 +1,18 @@
 """Entries of the record for many requests at once. Each is the same as one entry for each request, in this order, and shorter:
 
-    ["asked", NODE, SECOND, [NUMBER, HASH, ..]]   as `given` for each line `request NUMBER SECOND HASH`
+    ["asked", NODE, SECOND, [NUMBER, HASH, ..]]   as `given` for each line `request NUMBER SECOND HASH`; HASH may be `HASH NAME`
     ["took", NODE, COUNT]                         as `said` with the block `answer number NUMBER`, for the next COUNT requests
     ["handed", TAIL, [STEP, HEAD, ..]]            as `signed` for each STEP, with the signature HEAD + TAIL
 
 So checks read the same steps and signatures as before. Signatures of one round end alike, with the chains above the round."""
-from typing import Any, Iterator, List, Tuple
+from typing import Any, Iterator, List, Optional, Tuple
 
 MOST_SIGNATURES = 1000
 """The most signatures of one entry, so that a lookup reads little."""
 
 
-def request_of(number: Any, second: Any, imprint: str) -> str:
-    return f"request {number} {second} {imprint}"
+def request_of(number: Any, second: Any, imprint: str, name: Optional[str] = None) -> str:
+    return f"request {number} {second} {imprint}{f' {name}' if name else ''}"
 
 
 def answer_to(line: str) -> List[str]:

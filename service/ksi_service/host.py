@@ -9,6 +9,7 @@ import os
 import time
 from typing import Callable, Dict, List, Optional, Set, Tuple
 
+from . import gateway_links
 from .admission import MOST_WAITING
 from .carrier import Carrier, Message, Outbox
 from .clocks import ClockCheck
@@ -17,6 +18,8 @@ from .desk import Desk
 from .driver import Driver
 from .finding import Finding
 from .forget import forget_between, see_program
+from .gateway_links import Links
+from .gateway_view import Early, GatewayView
 from .heartbeat import ALIVE_SECONDS, Heartbeat
 from .inbox import Inbox
 from .known import ZERO, Core
@@ -63,7 +66,6 @@ class Host:
         self.places = places or Places.alone(plan)
         self.now = now
         self.clock = clock or ClockCheck(unchecked=True)
-        self.after = AFTER if self.places.others else AFTER_ALONE
         self.record = Record(os.path.join(folder, "record"), plan.text(), self.clock.described())
         self.carrier = carrier
         self.published: Callable[[], Optional[int]] = lambda: None
@@ -74,11 +76,17 @@ class Host:
             self.children[parent].append(f"a{number}")
         self.nodes: Dict[str, Node] = {it: self.node(it) for it in self.places.mine}
         self.cores: Dict[str, Core] = {it: Core(it, plan.start) for it in self.places.mine if it[0] == "c"}
-        self.peers: Dict[str, Peer] = {it: Peer(it, ALIVE_SECONDS) for it in self.places.others}
+        self.trusted: Dict[str, Peer] = self.machines_trusted()
+        """The machines whose reports on cores, clocks and this host count: all but gateways. For a gateway, those right above it."""
+        self.peers: Dict[str, Peer] = dict(self.trusted)
+        """All machines that this one talks to."""
         self.succession = Succession(self)
-        self.outbox = Outbox(carrier, [*self.places.others, *self.succession.former]) if carrier else None
-        self.view = View(self)
+        self.outbox = Outbox(carrier, [*self.trusted, *self.succession.former]) if carrier else None
+        self.links = Links(self)
+        """The gateways right below, which are among the peers."""
+        self.view = GatewayView(self) if self.places.is_gateway else View(self)
         self.closings = Closings(self)
+        self.early = Early()
         self.rounds = Rounds(self)
         self.desk = Desk(self, most_waiting)
         self.inbox = Inbox(self)
@@ -88,7 +96,7 @@ class Host:
         self.drivers = [Driver(self, it) for it in self.cores.values()]
         self.telling: Dict[Tuple[str, int], Set[str]] = {}
         """The seconds that a core is sending on `tell`, each with the cores that receive it."""
-        self.told_to: Dict[str, int] = {it: 0 for it in self.peers}
+        self.told_to: Dict[str, int] = {it: 0 for it in self.trusted}
         """How many missing seconds are being sent to each machine."""
         self.told = 0
         self.seconds_decided = 0
@@ -110,6 +118,19 @@ class Host:
         words = [program("ksi_serve"), os.path.join(self.folder, "plan"), name, self.folder, f"{name}.facts"]
         return Node(name, words, self.record, lambda step, block: self.route(name, step, block), lambda: self.may_lack(name), self.let_in,
                     lambda text: self.succession.may_take(name, text))
+
+    @property
+    def after(self) -> float:
+        """How long after its beginning a second is driven, and its rounds are closed. A gateway closes them earlier, at least by
+        how long batches take, since the nodes above do not wait long for it; later requests go to the next second."""
+        if self.places.is_gateway and self.outbox is not None:
+            return AFTER_ALONE - self.early.at_least(2 * max(map(self.outbox.usual, self.trusted), default=0.0))
+        return AFTER_ALONE if self.carrier is None else AFTER
+
+    def machines_trusted(self) -> Dict[str, Peer]:
+        below = self.places.below(self.plan)
+        words = (gateway_links.ALIVE_SECONDS, gateway_links.AWAY_SECONDS) if self.places.is_gateway else (ALIVE_SECONDS,)
+        return {it: Peer(it, *words) for it in self.places.neighbours(self.plan) if it not in below}
 
     @property
     def last_second(self) -> int:
@@ -139,7 +160,8 @@ class Host:
         if to in self.nodes:
             self.give(to, text, message)
         else:
-            machine = self.places.machine_of[to]
+            # a gateway that was removed has no machine any more
+            machine = self.places.machine_of.get(to, "")
             self.record.after(lambda: self.send(machine, ["line", to, text, *message]), is_of_vote(text))
 
     def send(self, machine: str, message: Message) -> None:
@@ -167,6 +189,8 @@ class Host:
             self.heard(to, int(words[1]), int(words[2]), words[3], words[-1])
         elif words[0] == "submission" and block[0] in ("answer done", "answer known"):
             self.submitted(to, f"a{words[1]}", int(words[2]))
+        elif words[0] == "submission" and block[0] == "answer late":
+            self.announce_none_to(f"a{words[1]}", int(words[2]))
         elif words[0] == "response" and block[0] == "answer done":
             self.rounds.responded(to, int(words[1]))
 
@@ -246,25 +270,30 @@ class Host:
     def announce_none(self, core: str, second: int) -> None:
         """Reports to the aggregators below a core that no response comes for a second."""
         for aggregator in self.children[core]:
-            machine = self.places.machine_of[aggregator]
-            if machine == self.places.me:
-                self.rounds.none(aggregator, second)
-            else:
-                self.send(machine, ["none", aggregator, second])
+            self.announce_none_to(aggregator, second)
+
+    def announce_none_to(self, aggregator: str, second: int) -> None:
+        machine = self.places.machine_of.get(aggregator)
+        if machine == self.places.me:
+            self.rounds.none(aggregator, second)
+        elif machine is not None:
+            self.send(machine, ["none", aggregator, second])
 
     # life
 
     def may_begin(self) -> bool:
         """Whether the nodes may be given lines: the plan before is over, and other machines, enough to have a majority of the cores with this
         one, know no later step of this machine than its record has. So a folder that lost its end is noticed before its core votes again.
-        The others are waited for too, for a moment: the first ones to answer may have lost their ends as well."""
-        if not self.peers or not self.succession.is_begun:
+        The others are waited for too, for a moment: the first ones to answer may have lost their ends as well. A gateway has no core, and one
+        machine above it is enough."""
+        if not self.trusted or not self.succession.is_begun:
             return self.succession.is_begun
         known = self.heartbeat.known_to
-        if len(known) < len(self.peers) and time.monotonic() - self.started < OTHERS_SECONDS:
+        if len(known) < len(self.trusted) and time.monotonic() - self.started < OTHERS_SECONDS:
             return False
         cores = sum(name[0] == "c" for machine in (self.places.me, *known) for name in self.places.nodes[machine])
-        return self.plan.is_majority(cores) and not self.failed.done()
+        is_enough = bool(known) if self.places.is_gateway else self.plan.is_majority(cores)
+        return is_enough and not self.failed.done()
 
     def fail(self, reason: BaseException) -> None:
         """Ends the host for a reason."""
@@ -286,7 +315,7 @@ class Host:
         if self.carrier:
             await self.carrier.begin(self.inbox.take)
             self.started = time.monotonic()
-            self.driving += [asyncio.create_task(it) for it in (self.outbox.run(), self.heartbeat.run())]
+            self.driving += [asyncio.create_task(it) for it in (self.outbox.run(), self.heartbeat.run(), self.links.run())]
 
     async def drive(self) -> None:
         for name in self.cores:
@@ -327,7 +356,7 @@ class Host:
 
     def is_enough(self) -> bool:
         """Whether the nodes that are up here can sign, or other machines' nodes may."""
-        return bool(self.peers) or self.plan.may_sign({it for it, node in self.nodes.items() if node.alive})
+        return bool(self.trusted) or self.plan.may_sign({it for it, node in self.nodes.items() if node.alive})
 
     def see_tasks(self) -> None:
         """Raises the reason if a task has ended."""

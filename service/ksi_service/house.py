@@ -103,10 +103,10 @@ class ServiceHouse(House):
     def refused_early(self) -> None:
         self.service.host.desk.busy += 1
 
-    async def sign(self, imprints: List[str], is_gone: Callable[[], bool]) -> Signings:
+    async def sign(self, imprints: List[str], is_gone: Callable[[], bool], name: Optional[str] = None) -> Signings:
         self.admit(len(imprints))
         began = time.monotonic()
-        batch = Batch(imprints)
+        batch = Batch(imprints, name)
         refusal: Optional[Refusal] = None
         try:
             with refusals():

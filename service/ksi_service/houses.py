@@ -36,9 +36,9 @@ class House(Load):
         """Raises a Refusal if a request to sign this many hashes would be refused now."""
         raise NotImplementedError
 
-    async def sign(self, imprints: List[str], is_gone: Callable[[], bool]) -> Signings:
+    async def sign(self, imprints: List[str], is_gone: Callable[[], bool], name: Optional[str] = None) -> Signings:
         """The signature of each hash, or the reason why it has none. Raises a Refusal if no hash was signed. Once `is_gone` returns true
-        nobody waits for them."""
+        nobody waits for them. The name, if there is one, is hashed with each."""
         raise NotImplementedError
 
     async def extend(self, contents: List[bytes], to: Optional[int]) -> Extensions:

@@ -3,7 +3,7 @@
     ["line", TO, LINE, STEP, PLACE]           a message that a node there sent: message PLACE of step STEP of that machine's record
     ["closed", AGGREGATOR, SECOND]            a round there is closed, or has no items; what it submitted was sent before
     ["none", AGGREGATOR, SECOND]              no response comes for a round here
-    ["ask", ID, SECOND, AGGREGATOR, HEX]      a request of a door there, for an aggregator here
+    ["ask", ID, SECOND, AGGREGATOR, HEX, NAME]   a request of a door there, for an aggregator here; most have no NAME
     ["got", ID, TEXT or null]                 the answer to such a request: a signature, or none
     ["lacks", CORE, SECOND]                   a core there lacks a second, and asks for its Success
     ["find", ID, HEX]                         a door there looks for a signature of a hash (finding.py)
@@ -11,7 +11,7 @@
     ["alive", {..}]                           a heartbeat (heartbeat.py)
     ["retired", {..}]                         the cores there retired (succession.py)
 
-All but `line` and `retired` are hints: a wrong one costs time, and changes no root. The sender's name is the carrier's, which authenticates it. Of a
+A gateway sends and is sent only some of them (gateway_links.py). All but `line` and `retired` are hints: a wrong one costs time, and changes no root. The sender's name is the carrier's, which authenticates it. Of a
 machine whose last heartbeat was refused, or that sent none yet, nothing but `retired` is taken."""
 import logging
 import re
@@ -20,6 +20,7 @@ from typing import Any, Dict
 from .carrier import Message, messages_in
 from .indexing import Found
 from .messages import second_of
+from .plan import NAME
 from .plans import NotNext
 
 log = logging.getLogger(__name__)
@@ -28,6 +29,8 @@ MOST_AHEAD = 2
 """Lines for seconds that are further ahead of this machine's clock are dropped: a machine whose clock is ahead decides nothing alone."""
 MOST_LINES = 10_000
 """How many lines may wait for a node here. Further lines are dropped."""
+FROM_ABOVE = {"line", "none", "alive", "retired"}
+"""What a gateway takes of the machines above it: requests come to its own door alone, and it looks for no signature of others."""
 LINE = re.compile(r"(?:synod [0-9] [0-9]{1,12} (?:next|last|begin|voted|success)|submission [0-9]{1,4} [0-9]{1,12}|response [0-9]{1,12})(?: [!-~]+)*")
 """The lines that nodes send."""
 HASH = re.compile("[0-9a-f]{64}")
@@ -58,7 +61,12 @@ class Inbox:
             self.host.succession.see_other_plan(machine)
         if machine not in self.host.peers:
             self.dropped += 1
-            return
+        elif machine in self.host.links.names:
+            self.host.links.take(machine, batch)
+        else:
+            self.take_all(machine, batch)
+
+    def take_all(self, machine: str, batch: bytes) -> None:
         try:
             messages = messages_in(batch)
         except ValueError as fault:
@@ -69,6 +77,9 @@ class Inbox:
 
     def take_one(self, machine: str, message: Message) -> None:
         kind, *words = message
+        if self.host.places.is_gateway and kind not in FROM_ABOVE and machine not in self.host.links.names:
+            self.dropped += 1
+            return
         if kind not in ("alive", "retired") and not self.host.heartbeat.takes_part(machine):
             self.dropped += 1
             return
@@ -92,10 +103,10 @@ class Inbox:
             self.host.give(to, text, [machine, number_in(step), number_in(place)])
 
     def machine_of_sender(self, to: str, text: str) -> str:
-        """The machine of the node that a line says it is from. Who sends a response is in no word: it is the node above."""
+        """The machine of the node that a line says it is from, or no name if that has none. Who sends a response is in no word: it is the node above."""
         word, number, _ = text.split(" ", 2)
         sender = {"synod": f"c{number}", "submission": f"a{number}"}.get(word) or self.host.plan.parents[int(to[1:])]
-        return self.host.places.machine_of[sender]
+        return self.host.places.machine_of.get(sender, "")
 
     def closed(self, machine: str, aggregator: str, second: int) -> None:
         if self.host.places.machine_of[aggregator] == machine and self.is_near(second):
@@ -108,10 +119,10 @@ class Inbox:
         if self.host.places.machine_of[self.host.plan.parents[int(aggregator[1:])]] == machine:
             self.host.rounds.none(aggregator, number_in(second))
 
-    def ask(self, machine: str, ask: int, second: int, aggregator: str, imprint: str) -> None:
-        if not HASH.fullmatch(imprint) or aggregator not in self.host.nodes:
+    def ask(self, machine: str, ask: int, second: int, aggregator: str, imprint: str, name: Any = None) -> None:
+        if not HASH.fullmatch(imprint) or aggregator not in self.host.nodes or name is not None and not NAME.fullmatch(name):
             raise ValueError("not a request")
-        self.host.rounds.ask(machine, number_in(ask), number_in(second), aggregator, imprint)
+        self.host.rounds.ask(machine, number_in(ask), number_in(second), aggregator, imprint, *([] if name is None else [name]))
 
     def got(self, machine: str, ask: int, text: Any) -> None:
         if text is not None and not SIGNATURE.fullmatch(text):

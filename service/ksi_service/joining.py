@@ -57,14 +57,15 @@ def credentials_of(words: Words):
     return Credentials(certificate, words.key or f"{os.path.splitext(certificate)[0]}.key", words.authority or words.beside("authority.crt"))
 
 
-def carrier_of(words: Words, me: str, places: Places, former: Dict[str, str]):
+def carrier_of(words: Words, me: str, places: Places, plan: Plan, former: Dict[str, str]):
     """HTTPS from host to host, or the server that was asked for. Each needs a package, which is named if it is missing. Machines of the
     plan before that have no part any more may connect too: they learn of this plan."""
     if words.over:
         from .carrier_redis import RedisCarrier
-        return RedisCarrier(me, places.others, words.over)
+        return RedisCarrier(me, places.neighbours(plan), words.over)
     from .carrier_https import HttpsCarrier
-    return HttpsCarrier(me, {**former, **places.addresses}, credentials_of(words))
+    near = {it: places.addresses[it] for it in (me, *places.neighbours(plan))}
+    return HttpsCarrier(me, {**former, **near}, credentials_of(words))
 
 
 def use_python_with(package: str) -> None:
@@ -105,5 +106,5 @@ def maker(words: Words) -> Callable[..., Service]:
         places = Places.read(own if os.path.exists(own) else words.machines, me, plan)
         before = plans.Before.read(folder)
         former = before.content.addresses if before else {}
-        return Service(folder, plan, places=places, carrier=carrier_of(words, me, places, former), **options)
+        return Service(folder, plan, places=places, carrier=carrier_of(words, me, places, plan, former), **options)
     return make

@@ -1,10 +1,12 @@
 """Sets up a service of several machines: its plan, the file of machines, and a certificate for each machine."""
+import dataclasses
 import os
 import re
 import time
 from typing import Dict, List, NamedTuple, Optional, Tuple
 
-from . import certificates, files
+from . import certificates, files, gateways
+from .command_words import natural
 from .errors import ServiceError
 from .plan import Plan, parents_of
 from .plans import Before, content_in
@@ -59,12 +61,16 @@ def parent_of(aggregator: str, machine: Machine, cores: int) -> str:
     return own[number % len(own)] if own else f"c{number % cores}"
 
 
-def plan_of(machines: List[Machine], parents: Optional[str] = None, start: Optional[int] = None) -> Plan:
-    """The plan of these machines' nodes, which starts a second from now."""
+def see_names(machines: List[Machine]) -> None:
     names = [machine.name.lower() for machine in machines]
     addresses = [machine.address for machine in machines]
     if len(set(names)) < len(names) or len(set(addresses)) < len(addresses):
         raise NotPlanned("each machine has a name and an address of its own; capital letters make no difference")
+
+
+def plan_of(machines: List[Machine], parents: Optional[str] = None, start: Optional[int] = None) -> Plan:
+    """The plan of these machines' nodes, which starts a second from now."""
+    see_names(machines)
     home: Dict[str, Machine] = {node: machine for machine in machines for node in machine.nodes}
     nodes = [node for machine in machines for node in machine.nodes]
     cores = count_of("c", nodes)
@@ -101,12 +107,23 @@ def make_plan(words) -> None:
         return
     machines = [machine_of(word) for word in words.machines]
     plan = plan_of(machines, words.parents, first_second(words))
+    plan = with_gateways(machines, plan, [gateways.gateway_of(it) for it in words.gateway], words.spares, words.named)
     write(words.out, machines, plan, before_in(words.of))
     print(f"saved {os.path.join(words.out, 'plan')} and {os.path.join(words.out, 'machines')}, the same for all machines{first_in(plan)}")
 
 
+def with_gateways(machines: List[Machine], plan: Plan, added: List[gateways.Gateway], spares: int, are_named: bool = False) -> Plan:
+    """The plan with aggregators for gateways and spare ones. The gateways are added to the machines."""
+    laid = gateways.lay_out(plan, {it.name: it.nodes for it in machines}, [it.name for it in added], spares, are_named)
+    machines += [Machine(it.name, it.address, laid.nodes[it.name]) for it in added]
+    see_names(machines)
+    return laid.plan
+
+
 def make_plan_alone(words) -> None:
     """The plan of a service of one machine, which succeeds that of one."""
+    if words.gateway or words.spares:
+        raise NotPlanned("gateways need machines: name the machines that have the cores too")
     cores = words.cores or 3
     plan = Plan(cores, first_second(words), parents_of(words.parents or "2", cores))
     write(words.out, [], plan, before_in(words.of))
@@ -140,7 +157,8 @@ def replace(words) -> None:
     rows = [Machine(it, addresses[it], its) for it, its in nodes.items() if it != words.machine]
     rows.append(new._replace(nodes=nodes[words.machine]))
     old = before.content.plan
-    plan = plan_of(rows, ",".join(old.parents), first_second(words))
+    see_names(rows)
+    plan = dataclasses.replace(old, start=first_second(words))
     write(words.out, rows, plan, before)
     print(f"saved {words.out}: run `ksi-service succeed {words.out}` on each machine that is left{first_in(plan)}")
     if os.path.exists(os.path.join(words.of, "authority.key")):
@@ -149,18 +167,34 @@ def replace(words) -> None:
 
 
 def names_in(path: str) -> List[str]:
-    """The machines of a file of machines."""
+    """The machines of a file of machines that are no gateways: these make their keys themselves."""
     content = files.content_of(path)
     if content is None:
         raise NotPlanned(f"{path}: no such file; name the machines, or write it by `ksi-service plan`")
-    return [row.split()[1] for row in content.decode("ascii", "replace").splitlines() if row.startswith("machine ")]
+    return gateways.names_of(content.decode("ascii", "replace"))
 
 
 def make_certificates(words) -> None:
+    if words.request or words.sign:
+        certify(words)
+        return
     names = words.machines or names_in(os.path.join(words.out, "machines"))
     certificates.make_all(words.out, names, words.days)
     rows = [f"saved {os.path.join(words.out, name)}: copy it to machine {name} as /etc/ksi, and delete it here" for name in names]
     print(*rows, f"{os.path.join(words.out, 'authority.key')} stays with you: whoever has it speaks for every machine", sep="\n")
+
+
+def certify(words) -> None:
+    """Makes a key and a request to sign, or a certificate by such a request."""
+    if len(words.machines) != 1 or words.request and words.sign:
+        raise NotPlanned("it is certificates OUT NAME --request, or certificates OUT NAME --sign FILE, with one name")
+    name = words.machines[0]
+    if words.request:
+        path = certificates.make_request(words.out, name)
+        print(f"saved {path}: send it to the operator, who signs it; {name}.key stays on this machine")
+        return
+    certificates.sign_request(words.out, name, words.sign, words.days)
+    print(f"saved {os.path.join(words.out, name)}: send it to {name}, where its files belong next to {name}.key")
 
 
 def add_next(one, positive, seconds: int) -> None:
@@ -175,6 +209,9 @@ def add_commands(commands, positive) -> None:
     one.add_argument("out", metavar="OUT", help="the folder for `plan` and `machines`")
     one.add_argument("machines", nargs="*", metavar="NAME=HOST:PORT:NODES", help="a machine, its address for other machines, and its nodes, as A=10.0.0.1:7443:c0,a0; none for the next plan of a service of one machine")
     one.add_argument("--parents", metavar="PARENTS", help="to whom each aggregator submits, as c0,c1,a0; otherwise to a core of its machine")
+    one.add_argument("--gateway", action="append", default=[], metavar="NAME=HOST:PORT", help="a gateway, and its address for the cores' machines, as riga=10.0.0.9:7443; it gets an aggregator below each core")
+    one.add_argument("--named", action="store_true", help="hash the gateways' names into the tree: signatures show through which gateway they were made")
+    one.add_argument("--spares", type=natural, default=0, metavar="NUMBER", help="for how many gateways aggregators are left over, so that `gateway add` can add them while the service runs (default 0)")
     one.add_argument("--cores", type=int, choices=range(1, 10), metavar="1..9", help="how many cores a plan of one machine has: 3")
     add_next(one, positive, 1)
     one.set_defaults(does=make_plan)
@@ -187,6 +224,8 @@ def add_commands(commands, positive) -> None:
     one.set_defaults(does=replace)
     one = commands.add_parser("certificates", help="make an authority and a certificate for each machine, by openssl")
     one.add_argument("out", metavar="OUT", help="the folder for the authority, and in it one for each machine")
-    one.add_argument("machines", nargs="*", metavar="NAME", help="the machines, as A B C (default: those of OUT/machines)")
+    one.add_argument("machines", nargs="*", metavar="NAME", help="the machines, as A B C (default: those of OUT/machines that are no gateways)")
+    one.add_argument("--request", action="store_true", help="make only a key for the machine NAME in OUT, and NAME.csr, a request to sign its certificate")
+    one.add_argument("--sign", metavar="FILE", help="make the certificate of the machine NAME by such a request")
     one.add_argument("--days", type=positive, default=certificates.DAYS, help=f"certificates are valid for this many days (default {certificates.DAYS})")
     one.set_defaults(does=make_certificates)

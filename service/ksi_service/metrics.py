@@ -53,6 +53,7 @@ LABELLED = {
     "silent_seconds": ("machine_silent_seconds", "machine", "Seconds since another machine was last heard, or since the start."),
     "clock_offsets": ("clock_offset_seconds", "machine", "By how many seconds the clock of another machine is ahead of this one's, less the time of a message."),
     "cores_next": ("core_next_second", "core", "The first second that a core lacks."),
+    "gateways_dropped": ("gateway_dropped", "gateway", "Messages of a gateway right below that were dropped since the start."),
     "free_bytes": ("disk_free_bytes", "folder", "Bytes that the service may still write on the disk of a folder."),
 }
 """Gauges that have a value for each machine or process: their name, the name of their label, and their meaning."""

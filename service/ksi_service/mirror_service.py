@@ -68,7 +68,7 @@ class MirrorHouse(House):
     def refused_early(self) -> None:
         pass
 
-    async def sign(self, imprints: List[str], is_gone: Any) -> Signings:
+    async def sign(self, imprints: List[str], is_gone: Any, name: Optional[str] = None) -> Signings:
         return self.admit()
 
     async def lookup(self, imprint: str) -> Signed:

@@ -64,7 +64,7 @@ async def opened_identity(folder, service, start):
     identity has the step."""
     host = service.host
     before = host.succession.before
-    await see_newest(Folder(folder, service.publications.published, not host.peers, log.warning, host.plan.start if before else 0), start.mirror, start.printed, start.moved)
+    await see_newest(Folder(folder, service.publications.published, not host.trusted, log.warning, host.plan.start if before else 0), start.mirror, start.printed, start.moved)
     digest = identity.digest_of(host.plan.text().encode())
     # a file that is named is that of the first plan's identity
     path = f"{start.identity_at}.{digest[:16]}" if start.identity_at and before else start.identity_at

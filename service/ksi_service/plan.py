@@ -1,4 +1,5 @@
-"""The plan of a service: how many cores, who submits to whom, and the first second. Its file is a schedule without events."""
+"""The plan of a service: how many cores, who submits to whom, under which names, and the first second. Its file is a schedule without
+events, of version 2 if an aggregator has a name."""
 import re
 from dataclasses import dataclass
 from functools import cached_property
@@ -12,6 +13,8 @@ SECONDS = 1 << 24
 MOST_LEVELS = 7
 """How many aggregators may be above one another: a response has at most seven chains."""
 MOST_AGGREGATORS = 4096
+NAME = re.compile("[A-Za-z0-9._-]{1,64}")
+"""A name that is hashed into the tree (docs/FORMATS.md, "Names")."""
 
 
 class Odd(ServiceError):
@@ -35,12 +38,23 @@ def parents_of(text: str, cores: int) -> Tuple[str, ...]:
     return parents
 
 
+def label_in(words: List[str]) -> str:
+    """The name in the last words of an aggregator's line, or no letters. Raises ValueError if they are no name."""
+    if not words:
+        return ""
+    if len(words) != 2 or words[0] != "name" or not NAME.fullmatch(words[1]):
+        raise ValueError("not a name")
+    return words[1]
+
+
 @dataclass(frozen=True)
 class Plan:
     cores: int
     start: int
     parents: Tuple[str, ...]
     """To whom each aggregator submits: a core as `c0`, or an aggregator of a lower number as `a0`."""
+    labels: Tuple[str, ...] = ()
+    """The name of each aggregator, or no letters for none; nothing if none has a name."""
 
     @property
     def last_second(self) -> int:
@@ -80,7 +94,7 @@ class Plan:
     @classmethod
     def parsed(cls, text: str, path: str) -> "Plan":
         """The plan in the text of a file. Raises Broken if it has none."""
-        cores, start, parents = 0, 0, []
+        cores, start, parents, labels = 0, 0, [], []
         try:
             for words in map(str.split, text.splitlines()):
                 if words[:1] == ["cores"]:
@@ -89,8 +103,9 @@ class Plan:
                     start = int(words[1])
                 elif words[:1] == ["aggregator"]:
                     parents.append(words[3])
+                    labels.append(label_in(words[4:]))
             if parents_of(",".join(parents), cores) == tuple(parents):
-                return cls(cores, start, tuple(parents))
+                return cls(cores, start, tuple(parents), tuple(labels) if any(labels) else ())
         except (Odd, IndexError, ValueError):
             pass
         raise Broken(f"{path} is not the plan that was made")
@@ -100,8 +115,9 @@ class Plan:
         return f"--cores {self.cores} --aggregators {','.join(self.parents)}"
 
     def text(self):
-        rows = ["ksi-schedule 1", f"cores {self.cores}", f"start {self.start}"]
-        rows += [f"aggregator {number} parent {parent}" for number, parent in enumerate(self.parents)]
+        labels = self.labels or ("",) * len(self.parents)
+        rows = [f"ksi-schedule {2 if self.labels else 1}", f"cores {self.cores}", f"start {self.start}"]
+        rows += [f"aggregator {number} parent {parent}{f' name {label}' if label else ''}" for number, (parent, label) in enumerate(zip(self.parents, labels))]
         return "".join(f"{row}\n" for row in rows)
 
     def names(self):

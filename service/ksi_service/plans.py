@@ -19,7 +19,7 @@ from typing import Dict, Iterable, List, Optional, Set, Tuple
 from . import files
 from .errors import NeedsOperator, ServiceError
 from .hours import Broken
-from .places import Places, machines_in
+from .places import Places, machines_in, see_nodes, without_gateways
 from .plan import Plan
 
 FOLDER = re.compile(r"[0-9]{1,12}-[0-9a-f]{8}")
@@ -39,9 +39,9 @@ class Lost(NeedsOperator):
 
 def name_of(plan: Plan, nodes: Nodes, before: str) -> str:
     """The name of a plan: a digest of its file, of its machines with their nodes, and of the name of the plan that it succeeds, or of no
-    name. Addresses may change and are no part of it. Two plans with the same file on other machines have different names: their cores
+    name. Addresses and gateways may change and are no part of it. Two plans with the same file on other machines have different names: their cores
     have the same numbers and are other cores."""
-    rows = sorted([machine, list(its)] for machine, its in nodes.items())
+    rows = sorted([machine, list(its)] for machine, its in without_gateways(nodes).items())
     return hashlib.sha256(json.dumps(["ksi-plan", plan.text(), rows, before]).encode()).hexdigest()
 
 
@@ -75,8 +75,7 @@ class Content:
             made = cls(Plan.parsed(plan, "the plan"), machines)
             if made.plan.text() != plan:
                 raise Broken("the file of the plan has other lines than `ksi-service plan` writes")
-            if sorted(sum(made.nodes.values(), ())) != sorted(made.plan.names()):
-                raise Broken("the file of machines does not have each node of the plan exactly once")
+            see_nodes(made.nodes, made.plan, "the file of machines")
             return made
         except ServiceError as reason:
             raise NotNext(str(reason)) from None

@@ -64,7 +64,7 @@ class Publishing:
         last = self.host.last_second
         if self.host.now() - last > END_SECONDS and not self.host.succession.retired:
             raise PlanEnded(f"the plan's last second was {last}, and is not published: see to a majority of the cores, and start again")
-        if self.host.now() - second > LATE_SECONDS and self.logged != second:
+        if self.host.cores and self.host.now() - second > LATE_SECONDS and self.logged != second:
             self.logged = second
             log.warning("second %d is not published: no core that is up holds all seconds to it", second)
 
@@ -97,7 +97,7 @@ class Publishing:
         """Publishes up to the last second of a service of one machine that stops, so that each signature that was handed out can be
         extended. Of several machines the others go on, and their files stay the same."""
         second = min(max(self.host.desk.last_signed, int(self.host.now()) - 2), self.host.last_second)
-        if self.host.peers or second < self.host.plan.start or second <= (self.publications.last() or 0):
+        if self.host.trusted or second < self.host.plan.start or second <= (self.publications.last() or 0):
             return
         end = time.monotonic() + LAST_SECONDS
         while time.monotonic() < end:

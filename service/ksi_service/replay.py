@@ -42,7 +42,10 @@ class Schedule:
     """The aggregators and seconds whose rounds are closed."""
 
     def text(self) -> str:
-        return self.plan + "".join(f"{it}\n" for it in self.events)
+        """A schedule in which a request has a name is of version 2, whatever the plan is."""
+        has_names = any(it.startswith("request ") and it.count(" ") == 4 for it in self.events)
+        plan = self.plan.replace("ksi-schedule 1\n", "ksi-schedule 2\n", 1) if has_names else self.plan
+        return plan + "".join(f"{it}\n" for it in self.events)
 
     def add(self, step: Step, sends_of_unsaid) -> None:
         """Adds a step. If its reply was lost, `sends_of_unsaid` returns how many messages there are by then."""

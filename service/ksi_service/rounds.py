@@ -14,6 +14,8 @@ MOST_RESPONSE_SECONDS = 20.0
 """How long it waits at most. While its second is undecided, the response may still come: requests made again would be more load."""
 ANNOUNCED_SECONDS = 0.6
 """How long it takes at most until the other machines know that an aggregator takes no requests."""
+GATEWAYS_SECONDS = 4.0
+"""How long it takes at most until gateways have submitted the requests that they took before they knew that."""
 KEPT_SECONDS = 60
 
 
@@ -47,10 +49,13 @@ class Rounds:
         self.responses: Dict[Tuple[str, int], asyncio.Future] = {}
         self.next = max(self.plan.start, host.record.state.second, int(host.now()))
         """The first second whose rounds are open: none before takes a request, whatever the machine's clock says."""
-        self.stride = len(host.places.nodes)
+        self.levels = {core: [[it for it in level if f"a{it}" in host.places.mine] for level in levels] for core, levels in self.plan.levels.items()}
+        """The aggregators of this machine below each core by levels, the deepest first."""
+        self.stride = max(1, len(host.places.full))
         first = int(host.now() * 1000) << 20
         self.number = first - first % self.stride + host.places.number
-        """The number of the last request. Numbers of different machines have different remainders."""
+        """The number of the last request. Numbers of different machines have different remainders; those of a gateway need only differ at each
+        of its own aggregators."""
         self.late = 0
         self.on_signed: Callable[[str, int, Tuple[int, int]], None] = lambda imprint, second, place: None
         """Is called with each hash that was signed, its second, and the place of its signature on the record."""
@@ -58,11 +63,11 @@ class Rounds:
 
     # requests
 
-    def ask(self, machine: str, ask: int, second: int, aggregator: str, imprint: str) -> None:
+    def ask(self, machine: str, ask: int, second: int, aggregator: str, imprint: str, name: Optional[str] = None) -> None:
         """Takes a request from a door, or answers it with none."""
-        self.ask_all(machine, ask, second, aggregator, [imprint])
+        self.ask_all(machine, ask, second, aggregator, [imprint], name)
 
-    def ask_all(self, machine: str, first: int, second: int, aggregator: str, imprints: List[str]) -> None:
+    def ask_all(self, machine: str, first: int, second: int, aggregator: str, imprints: List[str], name: Optional[str] = None) -> None:
         """Takes requests from a door, whose numbers there begin with the first one; or answers each with none."""
         last = min(int(self.host.now()) + self.plan.cores + 1, self.host.last_second)
         if not self.next <= second <= last or not self.accepts(aggregator):
@@ -73,7 +78,7 @@ class Rounds:
         requests, lines = self.rounds[second][aggregator], []
         for ask, imprint in enumerate(imprints, first):
             self.number += self.stride
-            line = Line(request_of(self.number, second, imprint))
+            line = Line(request_of(self.number, second, imprint, name))
             asked = Asked(machine, ask, self.number, imprint, line)
             requests.append(asked)
             line.answer.add_done_callback(functools.partial(self.taken, asked))
@@ -120,11 +125,16 @@ class Rounds:
         """Waits until no request waits for an aggregator or for one below it, and other machines know that it takes none. Returns
         whether that is so within this many seconds."""
         end = time.monotonic() + seconds
-        while self.accepts(aggregator) and self.host.peers or self.waits_for(aggregator):
+        while self.accepts(aggregator) and self.host.peers or self.waits_for(aggregator) or self.awaits_gateways(aggregator):
             if time.monotonic() > end:
                 return False
             await asyncio.sleep(0.02)
         return True
+
+    def awaits_gateways(self, aggregator: str) -> bool:
+        """Whether submissions of gateways may still come for an aggregator that takes no more: of requests from before they knew."""
+        has_gateways = any(map(self.host.links.is_of_gateway, self.host.children[aggregator]))
+        return has_gateways and time.monotonic() - self.resting.get(aggregator, 0.0) < GATEWAYS_SECONDS
 
     def waits_for(self, aggregator: str) -> bool:
         number = int(aggregator[1:])
@@ -180,8 +190,8 @@ class Rounds:
     async def close(self, second: int) -> None:
         """Closes the rounds of a second, level by level, so that each submission arrives before the round above it is closed."""
         async def close_below(core):
-            for level in self.plan.levels[core]:
-                await asyncio.gather(*(self.close_one(f"a{it}", second) for it in level if f"a{it}" in self.host.nodes))
+            for level in filter(None, self.levels[core]):
+                await asyncio.gather(*(self.close_one(f"a{it}", second) for it in level))
         await asyncio.gather(*map(close_below, range(self.plan.cores)))
 
     async def close_one(self, aggregator: str, second: int) -> None:
@@ -221,11 +231,20 @@ class Rounds:
             there.set_result(True)
 
     def none(self, aggregator: str, second: int) -> None:
-        """No response comes for a round."""
+        """No response comes for a round, nor for those below it."""
+        for below in self.host.children[aggregator]:
+            self.host.announce_none_to(below, second)
         if aggregator in self.rounds.get(second, ()):
             there = self.response(aggregator, second)
             if not there.done():
                 there.set_result(False)
+
+    def away(self, machine: str) -> None:
+        """A machine is away: no response comes from it, so requests of rounds right below its nodes are made again."""
+        for second, rounds in list(self.rounds.items()):
+            for aggregator in list(rounds):
+                if self.host.closings.machine_above(aggregator) == machine:
+                    self.none(aggregator, second)
 
     def none_of(self, second: int) -> None:
         """No response comes for any round of a second: its root is zero."""
@@ -245,7 +264,9 @@ class Rounds:
     async def gather(self, aggregator: str, second: int, asked: List[Asked]) -> None:
         """Waits for a round's response, and gives each request its signature, or none."""
         try:
-            if await self.comes(aggregator, second):
+            came = await self.comes(aggregator, second)
+            self.host.early.note(came)
+            if came:
                 await self.sign(aggregator, second, [it for it in asked if it.line.step is not None and not it.is_answered])
                 await self.recorded()
         finally:

@@ -99,7 +99,7 @@ class Service:
         content = await asyncio.get_running_loop().run_in_executor(None, extended_by_files, self.calendar.calendar, signature, parts, last, self.publications.path)
         if content is not None:
             return content
-        others = ": ask another machine's door" if self.host.peers else ""
+        others = ": ask another machine's door" if self.host.trusted else ""
         raise extension.NotExtended("seconds-missing", f"no core that answers holds all seconds to {last}{others}")
 
     async def asked(self, core, work):
@@ -164,6 +164,7 @@ class Service:
             "messages_sent": host.outbox.sent, "messages_lost": host.outbox.lost, "batches_sent": host.outbox.batches,
             "messages_dropped": host.inbox.dropped, "lines_forged": host.inbox.forged,
             "requests_late": host.rounds.late, "seconds_told": host.told,
+            **({"gateways_dropped": dict(host.links.dropped)} if host.links.dropped else {}),
         }
 
     def processes(self):

@@ -13,6 +13,7 @@ Machines report it by this message, which is no line of a node:
 `of` and `next` are names of plans (plans.py), `plan` and `machines` the files of the next plan, `ended` whether the machine's host of
 the plan before has ended, and `known` the machines of which the sender knows that they retired."""
 import asyncio
+import dataclasses
 import logging
 import os
 import time
@@ -21,7 +22,6 @@ from typing import Any, Dict, NamedTuple, Optional, Set
 from .errors import NeedsOperator
 from .inbox import number_in
 from .messages import last_second_to_core
-from .plan import Plan
 from .plans import Before, Content, Lost, content_in, folder_of, keep_retirements, name_of, retirements_in, write_folder
 from .record import Retired
 from .storing import LostFacts
@@ -35,6 +35,8 @@ AHEAD_SECONDS = 86_400
 """How long before its last second a plan is succeeded without a command, if it is long enough for that."""
 CALM_SECONDS = 3600
 """For how long the clocks of a majority have to be right before that."""
+SAY_BELOW_SECONDS = 10.0
+"""How often it reports that to gateways."""
 OTHERS_SECONDS = 4.0
 """How long a host that has all seconds waits for other machines that lack some."""
 STUCK_SECONDS = 60.0
@@ -85,6 +87,7 @@ class Succession:
         self.is_reported = False
         """Whether it is on the disk that this machine's cores retired, so that others may know it."""
         self.answered: Dict[str, float] = {}
+        self.said_below = float("-inf")
         self.finished: Optional[float] = None
         self.minority_since: Optional[float] = None
         self.calm_since: Optional[float] = None
@@ -156,13 +159,13 @@ class Succession:
     def see_plan(self, content: Content, of: Optional[Before]) -> None:
         """Raises NotRetired unless a plan may succeed this one."""
         plan, last = self.host.plan, content.plan.start - 1
-        others = [it.name for it in self.host.peers.values() if it.is_there and it.protocol < NEEDS]
+        others = [it.name for it in self.host.trusted.values() if it.is_there and it.protocol < NEEDS]
         for fault, reason in (
             (self.retired is not None, f"the cores of this machine retired to another plan, {self.retired.digest[:16] if self.retired else ''}, and retire once"),
             (not self.is_begun, "this plan is not begun yet"),
             (of is not None and of.name != self.name, "the plan that is brought is to succeed another plan than this one"),
             (not plan.start <= last <= plan.last_second, f"the next plan has to begin after one of this plan's seconds, {plan.start} to {plan.last_second}, and begins at {content.plan.start}"),
-            (bool(self.host.peers) != bool(content.machines), "a plan of one machine is succeeded by a plan of one machine, and a plan of several by one of several"),
+            (bool(self.content.machines) != bool(content.machines), "a plan of one machine is succeeded by a plan of one machine, and a plan of several by one of several"),
             (self.host.carrier is not None and not self.host.carrier.may_succeed, "over Redis no plan succeeds another: run the machines over HTTPS first"),
             (bool(others), f"{' '.join(others)} run an older version of the protocol, which does not know succession: upgrade first"),
         ):
@@ -221,7 +224,7 @@ class Succession:
     def note_clocks(self) -> None:
         """Notes since when this machine's clock and those of a majority are right."""
         view = self.host.view
-        right = [machine for machine in self.host.places.nodes if not view.is_off(machine) and (machine == self.me or self.host.peers[machine].is_there)]
+        right = [machine for machine in (self.me, *self.host.trusted) if not view.is_off(machine) and (machine == self.me or self.host.peers[machine].is_there)]
         if self.me not in right or not self.host.plan.is_majority(self.content.count_cores(right)):
             self.calm_since = None
         elif self.calm_since is None:
@@ -229,7 +232,7 @@ class Succession:
 
     def derived(self, start: int) -> Content:
         """The plan that follows without a command: the same nodes on the same machines."""
-        return Content.of(Plan(self.host.plan.cores, start, self.host.plan.parents).text(), self.content.machines)
+        return Content.of(dataclasses.replace(self.host.plan, start=start).text(), self.content.machines)
 
     # reports of other machines
 
@@ -238,7 +241,7 @@ class Succession:
         second, name = number_in(fields["second"]), str(fields["next"])
         if self.before is not None and (fields["of"], name, second) == (self.before.name, self.name, self.host.plan.start - 1):
             self.keep(machine)
-        elif fields["of"] == self.name and machine in self.host.peers:
+        elif fields["of"] == self.name and machine in self.host.trusted:
             if self.me in fields["known"] and self.retired is None:
                 self.host.fail(LostFacts(f"{machine} knows that the cores of this machine retired at second {second}, and the record does not have it: bring back the folder's last state"))
                 return
@@ -300,7 +303,7 @@ class Succession:
         return self.fields_of_before()
 
     def fields_of_before(self) -> Optional[Dict[str, Any]]:
-        if self.before is None or self.me not in self.kept or self.me not in self.before.content.nodes:
+        if self.before is None or self.host.places.is_gateway or self.me not in self.kept or self.me not in self.before.content.nodes:
             return None
         return {"of": self.before.name, "second": self.host.plan.start - 1, "next": self.name, "plan": self.content.plan.text(), "machines": self.content.machines, "ended": True, "known": sorted(self.kept)}
 
@@ -327,14 +330,22 @@ class Succession:
             if self.retired is not None and self.is_reported:
                 if time.monotonic() - said >= SAY_SECONDS:
                     said = time.monotonic()
-                    fields = self.fields()
-                    for machine in self.host.peers:
-                        self.host.send(machine, ["retired", fields])
+                    self.say()
                 for machine in [it for it, other in self.heard.items() if other.name == self.retired.digest]:
                     self.keep_following(machine)
                 if not self.over.done() and self.may_end():
                     self.over.set_result(self.following)
             await asyncio.sleep(LOOK_SECONDS)
+
+    def say(self) -> None:
+        """Reports to the other machines; to gateways less often, since the files are large. A gateway has no core, and nobody needs its report."""
+        fields = self.fields()
+        machines = [] if self.host.places.is_gateway else list(self.host.trusted)
+        if time.monotonic() - self.said_below >= SAY_BELOW_SECONDS:
+            self.said_below = time.monotonic()
+            machines += self.host.links.names
+        for machine in machines:
+            self.host.send(machine, ["retired", fields])
 
     # the end of this host
 

@@ -52,6 +52,12 @@ class InProcess:
         await asyncio.sleep(0)
         return bool(delays) and machine in self.reachable()
 
+    def add(self, machine, address, limit=None):
+        """Every machine reaches every other one."""
+
+    def remove(self, machine):
+        """As above."""
+
     def reachable(self):
         return [it for it in self.wire.takes if it != self.machine and (self.machine, it) not in self.wire.cut]
 

@@ -33,9 +33,9 @@ class Desked(unittest.TestCase):
         self.has_majority = True
         plan = Plan(3, START, ("c0", "c1", "c2"))
         places = Places("A", {it: f"{it}:1" for it in NODES}, {"A": ("c0", "a0"), "B": ("c1", "a1"), "C": ("c2", "a2")})
-        view = SimpleNamespace(is_majority=lambda: self.has_majority, is_off=lambda _: False, takes=lambda _: True, order=lambda *_: [0, 1, 2], leads=lambda *_: True,
+        view = SimpleNamespace(is_majority=lambda: self.has_majority, is_off=lambda _: False, takes=lambda _: True, leader=lambda _: 0,
                                held_by_any=lambda: START + 10)
-        self.host = SimpleNamespace(plan=plan, last_second=plan.last_second, places=places, view=view, peers={"B": None, "C": None}, nodes=places.mine, clock=ClockCheck(unchecked=True), now=lambda: START + 10.5,
+        self.host = SimpleNamespace(plan=plan, last_second=plan.last_second, places=places, view=view, trusted={"B": None, "C": None}, nodes=places.mine, clock=ClockCheck(unchecked=True), now=lambda: START + 10.5,
                                     rounds=SimpleNamespace(next=START + 10, ask_all=lambda *_: None), outbox=SimpleNamespace(usual=lambda _: 0.0), send=lambda *_: None)
 
     def play(self, work):

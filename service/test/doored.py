@@ -26,6 +26,8 @@ class House(houses.House):
 
     full = False
     early = 0
+    names = []
+    """The names with which was signed."""
     left = []
     """Whether the client of a request of sevens had left, each time that the house looked."""
 
@@ -42,7 +44,8 @@ class House(houses.House):
     def refused_early(self):
         self.early += 1
 
-    async def sign(self, imprints, is_gone):
+    async def sign(self, imprints, is_gone, name=None):
+        self.names.append(name)
         if self.full:
             raise Refusal("busy", "too many requests wait", Retry_After="4")
         if "5" * 64 in imprints:

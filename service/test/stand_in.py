@@ -26,11 +26,12 @@ class Stand:
     """What both kinds have: facts in a file, and blocks."""
 
     def __init__(self, plan, number, path):
-        self.number, self.parents, self.cores, self.start = number, [], 0, 0
+        self.number, self.parents, self.labels, self.cores, self.start = number, [], [], 0, 0
         with open(plan, encoding="ascii") as lines:
             for words in map(str.split, lines):
                 if words[0] == "aggregator":
                     self.parents.append(words[3])
+                    self.labels.append("".join(f" {it}" for it in words[5:6]))
                 elif words[0] in ("cores", "start"):
                     setattr(self, words[0], int(words[1]))
         self.file, self.rows = stand_in_files.opened(plan, f"{self.kind}{number}", path, "records" in CAN), []
@@ -93,7 +94,7 @@ class Core(Stand):
     def missing(self, last):
         return next((it for it in range(self.start, int(last) + 1) if str(it) not in self.held), None)
 
-    def on_submission(self, aggregator, second, imprint, level):
+    def on_submission(self, aggregator, second, imprint, level, name=""):
         if second in self.sealed:
             return "answer late"
         if aggregator in self.open[second]:
@@ -220,7 +221,7 @@ class Aggregator(Stand):
         else:
             self.answered[second] = rest[0]
 
-    def on_request(self, number, second, imprint):
+    def on_request(self, number, second, imprint, name=""):
         if number in self.numbers:
             return "refused taken"
         if second in self.closed:
@@ -229,7 +230,7 @@ class Aggregator(Stand):
         self.open[second].append(f"{number}:{imprint}")
         return f"answer number {number}"
 
-    def on_submission(self, aggregator, second, imprint, level):
+    def on_submission(self, aggregator, second, imprint, level, name=""):
         if second in self.closed:
             return "answer late"
         if any(it.startswith(f"a{aggregator}:") for it in self.open[second]):
@@ -244,7 +245,7 @@ class Aggregator(Stand):
         self.keep("closed", second, *items)
         if items:
             root = items[0].split(":")[1] if len(items) == 1 else digest(items)
-            self.rows.append(f"send {self.parents[self.number]} submission {self.number} {second} {root} 0")
+            self.rows.append(f"send {self.parents[self.number]} submission {self.number} {second} {root} 0{self.labels[self.number]}")
         return "answer done"
 
     def on_response(self, second, text):

@@ -40,7 +40,7 @@ class PartsTest(Desked):
 
     def second_of_a_request(self, usual):
         """The second of a request for another machine half a second before its end, by how long batches usually take."""
-        self.host.view.order = lambda *_: [1, 2, 0]
+        self.host.view.leader = lambda _: 1
         self.host.outbox.usual = lambda _: usual
 
         async def work(desk):

@@ -17,7 +17,7 @@ class Driven(unittest.TestCase):
         self.core = Core("c1", NOW - 10)
         self.ranks, self.holders, self.asked = 0, [], []
         view = SimpleNamespace(rank=lambda *_: self.ranks, holder=lambda second, turn: self.holders[turn % len(self.holders)] if self.holders else None)
-        self.host = SimpleNamespace(view=view, peers={"A": 1, "C": 2}, now=lambda: NOW, after=1.05)
+        self.host = SimpleNamespace(view=view, trusted={"A": 1, "C": 2}, now=lambda: NOW, after=1.05)
         self.driver = Driver(self.host, self.core)
         self.clock = 500.0
         named = mock.patch.object(time, "monotonic", lambda: self.clock)
@@ -98,7 +98,7 @@ class PauseTest(Driven):
         self.assertLess(self.driver.pause(False), 0.7)
 
     def test_one_machine_waits_longer_for_its_own_cores(self):
-        self.host.peers = {}
+        self.host.trusted = {}
         self.assertEqual(self.driver.pause(False), 2.0)
 
 

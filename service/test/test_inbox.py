@@ -29,6 +29,8 @@ class Told:
         self.places = Places("A", {it: f"{it}:1" for it in NODES}, NODES)
         self.nodes = {name: SimpleNamespace(waiting=[], alive=True) for name in NODES["A"]}
         self.peers = {name: Peer(name, 0.25) for name in "BC"}
+        self.trusted = dict(self.peers)
+        self.links = SimpleNamespace(names=set(), is_slow=lambda _: False)
         self.cores = {"c0": SimpleNamespace(next=NOW)}
         self.record = SimpleNamespace(state=SimpleNamespace(steps=10, heard={"B": 4}, second=0), writes=False, groups=0)
         self.given, self.notes, self.failed = [], [], []
@@ -37,7 +39,7 @@ class Told:
         self.is_begun = True
         note = lambda word: lambda *words: self.notes.append((word, *words))
         self.closings = SimpleNamespace(note=note("closed"))
-        self.rounds = SimpleNamespace(none=note("none"), ask=note("ask"), rests=lambda _: False, next=NOW)
+        self.rounds = SimpleNamespace(none=note("none"), ask=note("ask"), rests=lambda _: False, next=NOW, away=note("rounds away"))
         self.desk = SimpleNamespace(got=note("got"), away=note("away"))
         self.finding = SimpleNamespace(find=note("find"), found=note("found"))
         self.tell_peer = note("lacks")

@@ -233,7 +233,8 @@ class Host:
 
     def __init__(self, name, others, known, is_complete=True):
         self.name = name
-        self.peers = dict.fromkeys(others)
+        self.trusted = dict.fromkeys(others)
+        self.places = SimpleNamespace(is_gateway=False)
         self.rounds = self
         self.succession = SimpleNamespace(before=None)
         self.known = known

@@ -169,7 +169,7 @@ class CoresTest(Hosted):
             peer = Peer("B", 1)
             peer.is_there = True
             peer.rests = {"c2": 7}
-            with mock.patch.object(host, "peers", {"B": peer}):
+            with mock.patch.multiple(host, peers={"B": peer}, trusted={"B": peer}):
                 for mine in ({}, {"c1": 8}, {"c1": 7}, {"c1": 6}):
                     host.view.rests = mine
                     reason()
