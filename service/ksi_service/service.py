@@ -4,10 +4,11 @@ import logging
 import os
 import time
 
-from . import extension, files, roots
+from . import earlier, extension, files, roots
 from .admission import MOST_WAITING
 from .anchors import Anchors
 from .asking import Questions
+from .book import Book
 from .calendar_writing import CalendarWriting
 from .finding import Finding
 from .host import Host, cancelled
@@ -56,6 +57,10 @@ class Service:
         self.host.record.discard = discard
         self.publishing = Publishing(self.host, folder, publish_every)
         self.publications = self.publishing.publications
+        self.earlier = earlier.earlier_plans(folder)
+        """The plans before, as far as this machine has them."""
+        self.all_publications = earlier.AllPublications()
+        self.book = Book(self, folder, self.earlier)
         self.calendar = CalendarWriting(self.host, folder)
         self.anchors = Anchors(folder, on_publication)
         self.publishing.on_published = self.anchors.published
@@ -75,7 +80,7 @@ class Service:
         await self.host.begin(self.cut_every)
         await self.questions.begin()
         self.is_ready = True
-        self.own = [asyncio.create_task(it.run()) for it in (self.publishing, self.calendar, self.anchors, self.indexing)]
+        self.own = [asyncio.create_task(it.run()) for it in (self.publishing, self.calendar, self.anchors, self.indexing, *([self.book] if self.book.content else []))]
         if self.publications.published:
             self.anchors.published(*self.publications.published[-1])
         if self.forget_every:
