@@ -9,7 +9,7 @@ import os
 import socket
 from typing import List, Optional
 
-from . import files
+from . import files, lost
 from .errors import NeedsOperator
 from .lines import Down
 from .plans import Before, Content
@@ -52,8 +52,9 @@ def answers(folder: str) -> bool:
 class Questions:
     """The side of the service."""
 
-    def __init__(self, host) -> None:
+    def __init__(self, host, publishing=None) -> None:
         self.host = host
+        self.publishing = publishing
         self.server: Optional[asyncio.AbstractServer] = None
 
     @property
@@ -97,7 +98,10 @@ class Questions:
         """Lets the machine's cores retire. Answers once that is on the disk."""
         try:
             plan, machines, succeeds = ("" if it == "-" else bytes.fromhex(it).decode("ascii") for it in files_in_hex)
-            second, name = self.host.succession.retire(Content.of(plan, machines), Before.parsed(succeeds) if succeeds else None)
+            content, way = Content.of(plan, machines), Before.parsed(succeeds) if succeeds else None
+            if way and way.lost:
+                await lost.see(self.host, self.publishing, way, content)
+            second, name = self.host.succession.retire(content, way)
         except (NeedsOperator, ValueError) as reason:
             return [f"refused {reason}"]
         await self.host.rounds.recorded()

@@ -14,6 +14,7 @@ from .earlier import Earlier
 from .elements import Malformed, parts_of, publications_file
 from .errors import ServiceError
 from .extension import NotExtended
+from .succession import BEGUN
 
 log = logging.getLogger(__name__)
 
@@ -23,8 +24,9 @@ LATER = ("seconds-missing", "program-missing")
 
 
 def book_of(plans: List[Earlier]) -> Optional[bytes]:
-    """The book of plans that are over, or None if there are none."""
-    return publications_file([it.published[-1] for it in plans]) if plans else None
+    """The book of plans that are over, or None if there are none. A record says if the plan after it was begun without a majority."""
+    notes = {it.record[0]: f"{BEGUN}: {' '.join(it.way.lost)} lost" for it in plans if it.way}
+    return publications_file([it.record for it in plans], notes) if plans else None
 
 
 def book_in(folder: str) -> Optional[bytes]:

@@ -10,7 +10,7 @@ import tempfile
 import zipfile
 from typing import Dict, NamedTuple, Optional, Sequence, Tuple
 
-from .elements import Malformed, number_of, published_in, read
+from .elements import Malformed, notes_in, number_of, published_in, read
 from .errors import ServiceError
 from .proved import Refused, ksi
 
@@ -72,6 +72,8 @@ class Shown(NamedTuple):
     """The second in which the old plan recorded the hash."""
     printed: Tuple[int, str]
     """The publication that shows that the hash existed: the one to compare with a print."""
+    note: str = ""
+    """What the book notes of the signature's plan."""
 
 
 def accepted(folder: str, name: str, imprint: str, publications: str) -> int:
@@ -104,7 +106,7 @@ def verified(parts: Dict[str, bytes], imprint: str, publications: str) -> Shown:
             if name == SIGNATURE and refused.line.startswith("refused V13 "):
                 hint = f" ({publications} has neither the publication that leads to the book, of second {publication_of(parts[BOOK_SIGNATURE])}, nor that of the plan itself)"
             raise NotVerified(f"{refused}{hint}") from None
-        return Shown(second, publication_in(publications, publication_of(parts[name])))
+        return Shown(second, publication_in(publications, publication_of(parts[name])), notes_in(parts[BOOK]).get(publication_of(parts[SIGNATURE]) or -1, ""))
 
 
 def publication_in(path: str, second: Optional[int]) -> Tuple[int, str]:

@@ -228,6 +228,8 @@ def print_shown(shown):
     """Prints the two times that a bundle shows."""
     print(f"recorded in second {shown.second} ({date(shown.second)}); existed before {date(shown.printed[0])}, the date of the print that you compared")
     print(f"to be compared with a print: {line_of(*shown.printed)}")
+    if shown.note:
+        print(f"the book notes of the plan after: {shown.note}")
 
 
 def add_asking(commands, name, does, told, *words, out=None):

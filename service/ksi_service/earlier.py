@@ -2,6 +2,7 @@
 
 A machine has the folders of the plans that were succeeded there. It may also have a folder `earlier` in its data folder, which is that of a
 mirror (mirror.py): by that a machine that joined later has the plans from before."""
+import hashlib
 import os
 from typing import Dict, List, NamedTuple, Optional, Tuple
 
@@ -9,8 +10,9 @@ from . import extension, files, roots
 from .calendar_files import Calendar, PlanName, plan_name
 from .elements import Malformed, parts_of, publications_file, published_in
 from .hours import Broken
+from .newest import print_in
 from .plan import Plan
-from .plans import chain_of, data_folder
+from .plans import Before, chain_of, data_folder
 
 FOLDER = "earlier"
 """The folder of a mirror in a data folder."""
@@ -26,6 +28,14 @@ class Earlier(NamedTuple):
     path: str
     """Its publications file."""
     published: Published
+    way: Optional[Before] = None
+    """How the next plan followed, if that was begun without a majority."""
+
+    @property
+    def record(self) -> Tuple[int, str]:
+        """The publication in the book: the last one, or the last print if that is later."""
+        printed = print_in(self.way.printed) if self.way else (-1, "")
+        return max(printed, self.published[-1])
 
     @property
     def start(self) -> int:
@@ -98,7 +108,14 @@ def earlier_plans(folder: str) -> List[Earlier]:
         it = of_folder(os.path.dirname(path), plan_name(path, plan.start)) if plan.start < start else None
         if it is not None:
             found[it.calendar.plan.digest] = it
-    return sorted((it for it in found.values() if it.start < start), key=lambda it: it.start)
+    ways = ways_of([*chain, folder])
+    return sorted((it._replace(way=ways.get(it.calendar.plan.digest)) for it in found.values() if it.start < start), key=lambda it: it.start)
+
+
+def ways_of(folders: List[str]) -> Dict[str, Before]:
+    """How plans were followed that lost a majority of their cores, by their digests."""
+    found = [it for it in map(Before.read, folders) if it is not None and it.lost]
+    return {hashlib.sha256(it.content.plan.text().encode()).hexdigest(): it for it in found}
 
 
 def plan_of(plans: List[Earlier], start: int, signature: bytes) -> Optional[Earlier]:

@@ -91,8 +91,8 @@ def take_plan(words: Words, folder: str) -> None:
         if succeeds is not None:
             files.write(os.path.join(folder, "succeeds"), succeeds)
         files.write(path, brought)
-    elif succeeds is not None and brought == kept and not os.path.exists(os.path.join(folder, "succeeds")):
-        raise OtherPlan(f"{folder} was begun without {words.beside('succeeds')}, which names the plan before: begin in an empty folder")
+    elif succeeds is not None and brought == kept and files.content_of(os.path.join(folder, "succeeds")) != succeeds:
+        raise OtherPlan(f"{folder} was begun without {words.beside('succeeds')}, which names the plan before, or with another one: begin in an empty folder")
 
 
 def maker(words: Words) -> Callable[..., Service]:

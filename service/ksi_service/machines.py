@@ -122,7 +122,7 @@ def before_in(folder: Optional[str]) -> Optional[Before]:
     if folder is None:
         return None
     before = Before.read(folder)
-    return Before(content_in(folder), before.name if before else "")
+    return Before(content_in(folder), before.origin if before else "")
 
 
 def replace(words) -> None:

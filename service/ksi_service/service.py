@@ -68,7 +68,7 @@ class Service:
         self.host.rounds.on_signed = self.indexing.note
         self.finding = self.host.finding = Finding(self.host, self.indexing)
         self.resting = Resting(self.host)
-        self.questions = Questions(self.host)
+        self.questions = Questions(self.host, self.publishing)
         self.extensions = Spans()
         self.began = time.monotonic()
         self.door = None
