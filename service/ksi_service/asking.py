@@ -2,7 +2,8 @@
 
 A request is one line, `second` or `NODE held FIRST COUNT`, and its answer is a block of lines that ends with `.`, as that of a node. Questions
 change nothing, and an answer leaves only after the record has the steps that it follows from. And `succeed PLAN MACHINES SUCCEEDS` lets the
-machine's cores retire: the three files of the next plan in hex, or `-` for one that is missing."""
+machine's cores retire: the three files of the next plan in hex, or `-` for one that is missing. `never` with the same words gives that
+plan up (never.py)."""
 import asyncio
 import contextlib
 import os
@@ -83,8 +84,8 @@ class Questions:
     async def answer(self, words: List[str]) -> List[str]:
         if words == ["second"]:
             return [str(self.held_to())]
-        if len(words) == 4 and words[0] == "succeed":
-            return await self.succeed(*words[1:])
+        if len(words) == 4 and words[0] in ("succeed", "never"):
+            return await getattr(self, words[0])(*words[1:])
         if len(words) != 4 or words[0] not in self.host.cores or words[1] != "held" or not all(it.isdigit() and len(it) < 16 for it in words[2:]):
             return ["refused word"]
         if int(words[3]) > AT_ONCE:
@@ -106,6 +107,16 @@ class Questions:
             return [f"refused {reason}"]
         await self.host.rounds.recorded()
         return [f"retired {second} {name}"]
+
+    async def never(self, *files_in_hex: str) -> List[str]:
+        """Has all machines of a next plan record that they never start it. Answers once that is on the disk."""
+        try:
+            plan, machines, succeeds = ("" if it == "-" else bytes.fromhex(it).decode("ascii") for it in files_in_hex)
+            name = await self.host.succession.never.give_up(Content.of(plan, machines), Before.parsed(succeeds) if succeeds else None)
+        except (NeedsOperator, ValueError) as reason:
+            return [f"refused {reason}"]
+        await self.host.rounds.recorded()
+        return [f"never {name}"]
 
     def held_to(self) -> int:
         """The last second up to which a core of this machine holds all. No publication of this machine is later."""

@@ -38,6 +38,9 @@ class Carrier(Protocol):
         """Sends a batch to a machine. Returns whether that machine's host received it within `patience` seconds. Never raises for a
         machine that cannot be reached. The host sends a machine one batch at a time."""
 
+    def know(self, addresses: Dict[str, str]) -> None:
+        """From now on the carrier reaches further machines, each at HOST:PORT, and takes their batches."""
+
     def reachable(self) -> Iterable[str]:
         """The machines to which a connection is open, as far as the carrier knows. Shown by `status`; nothing depends on it."""
 
@@ -89,9 +92,16 @@ class Outbox:
     def __init__(self, carrier: Carrier, machines: Iterable[str]) -> None:
         self.carrier = carrier
         self.queues: Dict[str, Queue] = {it: Queue() for it in machines}
+        self.more = asyncio.Event()
+        """Set if there are further machines."""
         self.sent = 0
         self.lost = 0
         self.batches = 0
+
+    def know(self, machines: Iterable[str]) -> None:
+        """Sends to further machines too."""
+        self.queues.update({it: Queue() for it in machines})
+        self.more.set()
 
     def send(self, machine: str, message: Message) -> None:
         """Queues a message, also for a machine that seems to be away: it may only be slow."""
@@ -106,7 +116,18 @@ class Outbox:
         return self.queues[machine].usual
 
     async def run(self) -> None:
-        await asyncio.gather(*(self.serve(machine) for machine in self.queues))
+        serving: Dict[str, asyncio.Task] = {}
+        try:
+            while True:
+                self.more.clear()
+                serving.update({it: asyncio.create_task(self.serve(it)) for it in self.queues.keys() - serving.keys()})
+                serving[""] = asyncio.create_task(self.more.wait())
+                done, _ = await asyncio.wait(serving.values(), return_when=asyncio.FIRST_COMPLETED)
+                for it in done:
+                    it.result()
+        finally:
+            for it in serving.values():
+                it.cancel()
 
     async def serve(self, machine: str) -> None:
         """Sends the queued messages of one machine."""

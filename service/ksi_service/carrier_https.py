@@ -131,6 +131,7 @@ class HttpsCarrier:
         self.server: Optional[asyncio.AbstractServer] = None
         self.manager: Optional[web.Server] = None
         self.session: Optional[aiohttp.ClientSession] = None
+        self.resolver: Optional[Addresses] = None
         self.connections: Dict[str, Deque[Connection]] = {it: collections.deque() for it in addresses if it != me}
         self.handshakes: Set[object] = set()
         self.received: Set[str] = set()
@@ -153,7 +154,8 @@ class HttpsCarrier:
             self.server = await loop.create_server(self.accepted, host, port, ssl=self.there, ssl_handshake_timeout=HANDSHAKE_SECONDS, backlog=MOST_HANDSHAKES)
         except OSError as error:
             raise ServiceError(f"cannot listen for other machines at {self.addresses[self.me]}: {error.strerror or error}") from None
-        connector = aiohttp.TCPConnector(ssl=self.here, resolver=Addresses(self.addresses), use_dns_cache=False, limit=0, limit_per_host=1, keepalive_timeout=KEEP_SECONDS)
+        self.resolver = Addresses(self.addresses)
+        connector = aiohttp.TCPConnector(ssl=self.here, resolver=self.resolver, use_dns_cache=False, limit=0, limit_per_host=1, keepalive_timeout=KEEP_SECONDS)
         self.session = aiohttp.ClientSession(connector=connector, cookie_jar=aiohttp.DummyCookieJar(), auto_decompress=False)
 
     def accepted(self) -> Connection:
@@ -254,6 +256,12 @@ class HttpsCarrier:
         if fault is not None and self.faults.get(machine) != fault:
             self.faults[machine] = fault
             log.error("no TLS connection to %s: %s", machine, fault)
+
+    def know(self, addresses: Dict[str, str]) -> None:
+        for machine, address in addresses.items():
+            self.addresses[machine] = address
+            self.resolver.hosts[machine.lower()] = parts_of(address)[0]
+            self.connections.setdefault(machine, collections.deque())
 
     def reachable(self) -> Iterable[str]:
         return sorted(self.received | {machine for machine, kept in self.connections.items() if kept})

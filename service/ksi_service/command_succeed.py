@@ -19,17 +19,25 @@ def succeed(words):
     contents = {name: files.content_of(os.path.join(words.next, name)) for name in FILES}
     if contents["plan"] is None:
         raise Failed(f"{os.path.join(words.next, 'plan')}: no such file; `ksi-service plan` writes it")
+    if words.never:
+        print(f"all machines of the plan {asked(words, 'never', contents)[:16]} recorded that they never start it; a machine that retired to it and runs this command is free")
+        return
     if words.lost or words.print or words.ask:
         contents["succeeds"] = without_majority(words, contents["succeeds"])
-    with asking.Running(newest(words.folder)) as service:
-        kind, _, text = service.told("succeed " + " ".join(it.hex() if it else "-" for it in contents.values()))[0].partition(" ")
-    if kind != "retired":
-        raise NotRetired(text)
-    second, name = text.split(" ")
+    second, name = asked(words, "succeed", contents).split(" ")
     if words.lost:
         keep_way(words.next, contents["succeeds"])
     needs = "all machines that are not lost have" if words.lost else "a majority of the cores has"
     print(f"this machine's cores retired at second {second}; the plan {name[:16]} begins at second {int(second) + 1}, once {needs} retired to it")
+
+
+def asked(words, question, contents):
+    """The answer of the running service to a question about the next plan. Raises NotRetired if it refuses."""
+    with asking.Running(newest(words.folder)) as service:
+        kind, _, text = service.told(f"{question} " + " ".join(it.hex() if it else "-" for it in contents.values()))[0].partition(" ")
+    if kind == "refused":
+        raise NotRetired(text)
+    return text
 
 
 def without_majority(words, content):
@@ -85,6 +93,7 @@ def add_commands(commands):
     one = commands.add_parser("succeed", help="let the next plan follow that of the running service")
     one.add_argument("next", metavar="NEXT", help="the folder of the next plan, as `ksi-service plan` writes it")
     one.add_argument("--folder", default=DEFAULT, help=WORDS["folder"])
+    one.add_argument("--never", action="store_true", help="give up NEXT, to which no majority retired: all its machines record that they never start it, and this one is free again")
     one.add_argument("--lost", nargs="+", action="extend", default=[], metavar="NAME", help="a majority of the cores is lost for good: the lost machines, all of them")
     one.add_argument("--print", metavar="'SECOND ROOT'", help="with --lost: the last print, as `ksi-service publications` printed it")
     one.add_argument("--ask", nargs="+", action="extend", default=[], metavar="URL", help="with --lost: doors and mirrors to ask whether they know a later publication")

@@ -22,6 +22,7 @@ from typing import Any, Dict, NamedTuple, Optional, Set
 from .errors import NeedsOperator
 from .inbox import number_in
 from .messages import last_second_to_core
+from .never import Never
 from .plan import Plan
 from .plans import Before, Content, Lost, content_in, folder_of, keep_retirements, name_of, retirements_in, write_folder
 from .record import Retired
@@ -77,6 +78,7 @@ class Succession:
         self.content = Content(host.plan, host.places.text())
         self.origin = self.before.origin if self.before else ""
         self.name = name_of(host.plan, host.places.nodes, self.origin)
+        self.never = Never(self)
         self.kept: Set[str] = retirements_in(host.folder) if self.before else set()
         """The machines of the plan before that retired to this plan. The folder has them."""
         self.is_begun = self.may_be_begun()
@@ -133,7 +135,7 @@ class Succession:
 
     def may_be_begun(self) -> bool:
         """Whether this plan is a first one, or the folder has retirements of enough machines of the plan before."""
-        return self.before is None or self.before.is_over(self.kept)
+        return self.before is None or not self.never.is_mine and self.before.is_over(self.kept)
 
     def last_of(self, machine: str) -> int:
         """The last second that the cores of a machine lead."""
@@ -151,7 +153,7 @@ class Succession:
         retired = Retired(content.plan.start - 1, name_of(content.plan, content.nodes, way.origin))
         if self.retired == retired:
             return retired
-        self.see_plan(content, of)
+        self.see_plan(content, of, retired.digest)
         self.see_cores(retired)
         folder = folder_of(self.host.folder, content.plan.start, retired.digest)
         write_folder(folder, content, way)
@@ -162,13 +164,14 @@ class Succession:
         log.warning("this machine's cores retire at second %d to the plan %s", retired.second, retired.digest[:16])
         return retired
 
-    def see_plan(self, content: Content, of: Optional[Before]) -> None:
+    def see_plan(self, content: Content, of: Optional[Before], name: str) -> None:
         """Raises NotRetired unless a plan may succeed this one."""
         plan, last = self.host.plan, content.plan.start - 1
         others = [it.name for it in self.host.peers.values() if it.is_there and it.protocol < NEEDS]
         for fault, reason in (
             (self.retired is not None, f"the cores of this machine retired to another plan, {self.retired.digest[:16] if self.retired else ''}, and retire once"),
             (not self.is_begun, "this plan is not begun yet"),
+            (name in self.never.names, "this machine recorded that it never starts that plan"),
             (of is not None and of.name != self.name, "the plan that is brought is to succeed another plan than this one"),
             (not plan.start <= last <= plan.last_second, f"the next plan has to begin after one of this plan's seconds, {plan.start} to {plan.last_second}, and begins at {content.plan.start}"),
             (bool(self.host.peers) != bool(content.machines), "a plan of one machine is succeeded by a plan of one machine, and a plan of several by one of several"),
@@ -192,6 +195,9 @@ class Succession:
 
     def report(self) -> None:
         """It is on the disk that the cores retired: others may know it."""
+        if self.retired is None:
+            # they are free by now
+            return
         self.is_reported = True
         self.keep_following(self.me)
 
@@ -206,6 +212,14 @@ class Succession:
         self.way = before
         self.followed = retirements_in(self.following)
         self.report()
+
+    def forget_following(self) -> None:
+        """The cores are free: the plan to which they retired never begins."""
+        self.way = Before(self.content, self.origin)
+        self.following = None
+        self.followed = set()
+        self.is_reported = False
+        self.finished = None
 
     def keep_following(self, machine: str) -> None:
         """Keeps in the folder of the plan after that a machine retired to it."""
@@ -355,7 +369,7 @@ class Succession:
 
     def is_followed(self) -> bool:
         """Whether the folder of the plan after has retirements of enough machines."""
-        return self.way.is_over(self.followed)
+        return self.way.is_over(self.followed) and (self.retired is None or self.retired.digest not in self.never.names)
 
     def may_end(self) -> bool:
         """Whether this host is to end: the plan after may begin, and there is nothing left to do for this one, or nothing that can be done."""
@@ -404,4 +418,4 @@ class Succession:
             retirements[self.me or "this"] = f"{self.retired.second}:{self.retired.digest[:16]}"
         if retirements:
             found["retired"] = retirements
-        return found
+        return {**found, **self.never.counters()}

@@ -52,6 +52,9 @@ class InProcess:
         await asyncio.sleep(0)
         return bool(delays) and machine in self.reachable()
 
+    def know(self, addresses):
+        pass
+
     def reachable(self):
         return [it for it in self.wire.takes if it != self.machine and (self.machine, it) not in self.wire.cut]
 
