@@ -7,7 +7,7 @@ from typing import Dict, List, NamedTuple, Optional, Tuple
 from . import certificates, files
 from .errors import ServiceError
 from .plan import Plan, parents_of
-from .plans import Before, content_in
+from .plans import Before, content_in, newest
 
 WORD = re.compile(r"([^=]*)=(\[[0-9A-Fa-f:.]+\]|[A-Za-z0-9.-]+):([0-9]{1,5})(?::(.*))?")
 NODE = re.compile(r"[ca](0|[1-9][0-9]{0,3})")
@@ -101,7 +101,7 @@ def make_plan(words) -> None:
         return
     machines = [machine_of(word) for word in words.machines]
     plan = plan_of(machines, words.parents, first_second(words))
-    write(words.out, machines, plan, before_in(words.of))
+    write(words.out, machines, plan, grown(before_in(words.of), words.alone, [it.name for it in machines]))
     print(f"saved {os.path.join(words.out, 'plan')} and {os.path.join(words.out, 'machines')}, the same for all machines{first_in(plan)}")
 
 
@@ -117,10 +117,20 @@ def first_in(plan: Plan) -> str:
     return f"; the first second is {plan.start}, {time.strftime('%Y-%m-%d %H:%M:%S', time.gmtime(plan.start))} UTC"
 
 
+def grown(before: Optional[Before], alone: Optional[str], names: List[str]) -> Optional[Before]:
+    """The plan before, with the name that its only machine has among several, if it has one machine."""
+    is_alone = before is not None and not before.content.machines
+    if is_alone != bool(alone) or alone and alone not in names:
+        raise NotPlanned("--alone names the machine of the next plan that is the only one of the plan before, and nothing else" if alone
+                         else "the plan before has one machine: --alone NAME says which machine of the next plan that is")
+    return before.by({"alone": alone}) if before and alone else before
+
+
 def before_in(folder: Optional[str]) -> Optional[Before]:
-    """The plan of a folder, as the one that a new plan succeeds."""
+    """The newest plan of a folder, as the one that a new plan succeeds."""
     if folder is None:
         return None
+    folder = newest(folder)
     before = Before.read(folder)
     return Before(content_in(folder), before.origin if before else "")
 
@@ -176,6 +186,7 @@ def add_commands(commands, positive) -> None:
     one.add_argument("machines", nargs="*", metavar="NAME=HOST:PORT:NODES", help="a machine, its address for other machines, and its nodes, as A=10.0.0.1:7443:c0,a0; none for the next plan of a service of one machine")
     one.add_argument("--parents", metavar="PARENTS", help="to whom each aggregator submits, as c0,c1,a0; otherwise to a core of its machine")
     one.add_argument("--cores", type=int, choices=range(1, 10), metavar="1..9", help="how many cores a plan of one machine has: 3")
+    one.add_argument("--alone", metavar="NAME", help="with --of the folder of a service of one machine: the name of that machine in a plan of several")
     add_next(one, positive, 1)
     one.set_defaults(does=make_plan)
     one = commands.add_parser("replace", help="write the plan with which a new machine takes the place of another one, and its certificate")

@@ -85,6 +85,8 @@ class Succession:
         """Whether cores may be given lines."""
         self.heard: Dict[str, Said] = {}
         """By machine of this plan, what it reported last of the plan after."""
+        self.grows_as = ""
+        """The name that the only machine of this plan has in a plan of several, if it was started with the files of that."""
         self.way = Before(self.content, self.origin)
         """How the plan after follows, once this machine's cores retired."""
         self.following: Optional[str] = None
@@ -174,12 +176,23 @@ class Succession:
             (name in self.never.names, "this machine recorded that it never starts that plan"),
             (of is not None and of.name != self.name, "the plan that is brought is to succeed another plan than this one"),
             (not plan.start <= last <= plan.last_second, f"the next plan has to begin after one of this plan's seconds, {plan.start} to {plan.last_second}, and begins at {content.plan.start}"),
-            (bool(self.host.peers) != bool(content.machines), "a plan of one machine is succeeded by a plan of one machine, and a plan of several by one of several"),
+            (bool(self.content.machines) and not content.machines, "a plan of several machines is not succeeded by a plan of one machine without a name"),
+            (not self.content.machines and bool(content.machines) and not self.may_grow(content, of),
+             "a plan of one machine is succeeded by one of several if `ksi-service plan .. --alone NAME` wrote that, and if this service was started with --machines and the files of NAME"),
             (self.host.carrier is not None and not self.host.carrier.may_succeed, "over Redis no plan succeeds another: run the machines over HTTPS first"),
             (bool(others), f"{' '.join(others)} run an older version of the protocol, which does not know succession: upgrade first"),
         ):
             if fault:
                 raise NotRetired(reason)
+
+    def may_grow(self, content: Content, of: Optional[Before]) -> bool:
+        """Whether the only machine of this plan is one of a plan of several, and has its certificate there."""
+        return of is not None and of.alone == self.grows_as != "" and self.grows_as in content.nodes
+
+    @property
+    def name_after(self) -> str:
+        """The name of this machine in the plan after."""
+        return self.me or self.grows_as if self.way.alone else self.me
 
     def see_cores(self, retired: Retired) -> None:
         """Raises HasFacts unless every fact of this machine's cores is about a second up to the last.
@@ -410,7 +423,7 @@ class Succession:
         found: Dict[str, Any] = {"plan_name": self.name[:16]}
         if self.before is not None:
             found["plan_before"] = self.before.name[:16]
-            found["retired_to_this"] = " ".join(sorted(it or "this" for it in self.kept)) or "none"
+            found["retired_to_this"] = " ".join(sorted(it or self.before.alone or "this" for it in self.kept)) or "none"
             if self.before.lost:
                 found["begun"] = f"{BEGUN}: {' '.join(self.before.lost)} lost after the print of {self.before.printed}"
         retirements = {machine: f"{said.second}:{said.name[:16]}" for machine, said in sorted(self.heard.items())}

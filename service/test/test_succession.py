@@ -112,7 +112,7 @@ class RefusedTest(Hosted):
                 (next_plan(host.record.state.latest), None, "were asked about second"),
                 (next_plan(host.plan.start), None, "has to begin after one of this plan's seconds"),
                 (next_plan(host.plan.last_second + 2), None, "has to begin after one of this plan's seconds"),
-                (several, None, "a plan of one machine is succeeded by a plan of one"),
+                (several, None, "a plan of one machine is succeeded by one of several if"),
                 (next_plan(start), Before(next_plan(5), ""), "is to succeed another plan than this one"),
             ):
                 with self.assertRaisesRegex(NotRetired, reason):

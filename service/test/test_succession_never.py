@@ -1,6 +1,7 @@
 """A next plan that got no majority is given up: none of its hosts ever starts it, and the machines that retired to it are free."""
 import os
 import time
+from unittest import mock
 
 from several import Several
 from test_succession_machines import NextMachines, next_plan
@@ -28,7 +29,8 @@ class NeverTest(Several):
             one, other = next_plan(start, ONE), next_plan(start + 120, OTHER)
             names = [machines.hosts[name].succession.retire(content).digest for name, content in zip("AB", (one, other))]
             await machines.crash("C")
-            self.assertRegex(await self.give_up(machines, "A", one), "^refused D does not answer, .*: nothing changed$")
+            with mock.patch.object(never, "ANSWER_SECONDS", 2):
+                self.assertRegex(await self.give_up(machines, "A", one), "^refused D does not answer, .*: nothing changed$")
             self.assertEqual((self.files(), machines.hosts["A"].record.state.retired.digest), ([], names[0]))
             waiting = await self.start_waiting(machines, one)
             self.assertEqual(await self.give_up(machines, "A", one), f"never {names[0]}")
