@@ -44,17 +44,19 @@ class Earlier(NamedTuple):
     @property
     def last(self) -> int:
         """The second of its last publication."""
-        return self.published[-1][0]
+        return self.record[0]
 
     def has(self, second: int) -> bool:
         """Whether a second was published."""
-        return any(it == second for it, _ in self.published)
+        return second == self.last or any(it == second for it, _ in self.published)
 
     def extended(self, signature: bytes, to: Optional[int] = None) -> bytes:
         """A signature of this plan, extended by its calendar files to the last publication or to that of a second. Raises NotExtended."""
         last = self.last if to is None else to
         if not self.has(last):
             raise extension.NotExtended("other-calendar", f"second {last} is no publication of the signature's plan, whose last one is of second {self.last}")
+        if self.calendar.next <= last:
+            raise extension.NotExtended("seconds-missing", f"the calendar files of that plan end before second {last} here: ask another machine's door, or a mirror")
         return by_files(self.calendar, signature, last, self.path)
 
 

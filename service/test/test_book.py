@@ -1,4 +1,5 @@
 """The book: signatures of plans that are over lead to the print of the newest plan, at a service, by a mirror, and in a bundle."""
+import asyncio
 import contextlib
 import hashlib
 import io
@@ -12,6 +13,7 @@ import stand_in_ksi
 import stands
 from calendar_tree import Tree
 from ksi_service import bundles, command, files, plans
+from ksi_service.anchors import Anchors
 from ksi_service.bundles import NotBundle, NotVerified
 from ksi_service.calendar_files import PlanName
 from ksi_service.earlier import earlier_plans
@@ -20,6 +22,7 @@ from ksi_service.elements import Malformed, parts_of, publications_file, publish
 from ksi_service.evidence import date
 from ksi_service.mirror_book import Books
 from ksi_service.mirror_extending import extended
+from ksi_service.mirror_service import MirrorHouse
 from ksi_service.newest import line_of
 from ksi_service.proved import Refused
 from ksi_service.source import AGREES, FAULTY, FORK
@@ -163,7 +166,17 @@ class MirrorTest(Quick):
         again = self.mirror(found[-1])
         again.look()
         self.see(again, found[-1], signatures)
-        self.assertEqual(Books(again).content, found[-1].book)
+        self.see_house(MirrorHouse(again, Anchors(self.room.name)), found[-1], signatures)
+
+    def see_house(self, house, service, signatures):
+        """What the mirror's door gives."""
+        self.assertEqual((house.book(), published_in(house.publications()), house.counters()["plans"]), (service.book, service.all_published(), PLANS))
+        self.assertEqual([it.plan for it in house.calendars().values()], [it.plan for it in service.plans])
+        rows = asyncio.run(house.extend(list(signatures.values()), None))
+        self.assertEqual([it.publication for it in rows], [it.publications[-1][0] for it in service.plans])
+        to = service.plans[1].publications[0][0]
+        self.assertEqual([getattr(it, "publication", None) or it.code for it in asyncio.run(house.extend(list(signatures.values())[:2], to))], ["other-calendar", to])
+        self.assertIn(b"an earlier plan", house.page())
 
     def serve(self, mirror, service):
         """Has the mirror ask another server under the old URL, as if the service had gone on to its next plan."""
