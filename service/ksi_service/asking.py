@@ -16,7 +16,9 @@ from .lines import Down
 from .plans import Before, Content
 from .proved import Refused
 
-NAME = "questions"
+NAME, WAITING = "questions", "questions-waiting"
+"""The names of the socket: of a service that runs, and of one that waits for a majority. The latter only takes `succeed` for a plan that
+follows without a majority."""
 AT_ONCE = 1024
 """Of how many seconds a core is asked at once."""
 ANSWER_SECONDS = 60.0
@@ -27,12 +29,12 @@ DOWN = ["down"]
 """The answer for a core that does not run."""
 
 
-def socket_in(folder: str, does: str) -> socket.socket:
+def socket_in(folder: str, does: str, name: str = NAME) -> socket.socket:
     """A socket that is bound or connected to a folder's. The path of a socket is at most 107 bytes long, and that of a folder may be longer."""
     number = os.open(folder, os.O_RDONLY | os.O_DIRECTORY)
     made = socket.socket(socket.AF_UNIX)
     try:
-        getattr(made, does)(f"/proc/self/fd/{number}/{NAME}")
+        getattr(made, does)(f"/proc/self/fd/{number}/{name}")
         return made
     except OSError:
         made.close()
@@ -56,15 +58,19 @@ class Questions:
     def __init__(self, host, publishing=None) -> None:
         self.host = host
         self.publishing = publishing
+        self.is_waiting = False
+        """Whether the host waits for other machines, so that a majority of the cores is there."""
         self.server: Optional[asyncio.AbstractServer] = None
 
     @property
     def path(self) -> str:
-        return os.path.join(self.host.folder, NAME)
+        return os.path.join(self.host.folder, WAITING if self.is_waiting else NAME)
 
-    async def begin(self) -> None:
+    async def begin(self, is_waiting: bool = False) -> None:
+        await self.stop()
+        self.is_waiting = is_waiting
         files.remove(self.path)
-        bound = socket_in(self.host.folder, "bind")
+        bound = socket_in(self.host.folder, "bind", os.path.basename(self.path))
         os.chmod(self.path, 0o600)
         self.server = await asyncio.start_unix_server(self.serve, sock=bound, limit=MOST_BYTES)
 
@@ -82,6 +88,8 @@ class Questions:
         writer.close()
 
     async def answer(self, words: List[str]) -> List[str]:
+        if self.is_waiting and words[:1] != ["succeed"]:
+            return ["refused word"]
         if words == ["second"]:
             return [str(self.held_to())]
         if len(words) == 4 and words[0] in ("succeed", "never"):
@@ -102,6 +110,8 @@ class Questions:
             content, way = Content.of(plan, machines), Before.parsed(succeeds) if succeeds else None
             if way and way.lost:
                 await lost.see(self.host, self.publishing, way, content)
+            elif self.is_waiting:
+                return ["refused this machine waits for others, so that a majority of the cores is there"]
             second, name = self.host.succession.retire(content, way)
         except (NeedsOperator, ValueError) as reason:
             return [f"refused {reason}"]
@@ -126,11 +136,11 @@ class Questions:
 class Running:
     """A core of a service that runs, as `Stopped` is one of a service that does not."""
 
-    def __init__(self, folder: str, name: str = "") -> None:
+    def __init__(self, folder: str, name: str = "", at: str = NAME) -> None:
         self.folder = folder
         self.name = name
         try:
-            self.socket = socket_in(folder, "connect")
+            self.socket = socket_in(folder, "connect", at)
         except OSError as fault:
             raise Refused(1, f"the service over {folder} takes no questions: {fault.strerror}") from None
         self.socket.settimeout(ANSWER_SECONDS)

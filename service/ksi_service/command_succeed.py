@@ -9,6 +9,7 @@ from .command_words import DEFAULT, WORDS, Failed
 from .lost import Answers, Later
 from .newest import ANSWER_SECONDS, NoAnswer, line_of, print_in, published_at
 from .plans import Before, newest
+from .proved import Refused
 from .succession import NotRetired
 
 FILES = "plan", "machines", "succeeds"
@@ -31,9 +32,17 @@ def succeed(words):
     print(f"this machine's cores retired at second {second}; the plan {name[:16]} begins at second {int(second) + 1}, once {needs} retired to it")
 
 
+def running(folder):
+    """The service over a folder, which may wait for a majority of the cores."""
+    try:
+        return asking.Running(folder)
+    except Refused:
+        return asking.Running(folder, at=asking.WAITING)
+
+
 def asked(words, question, contents):
     """The answer of the running service to a question about the next plan. Raises NotRetired if it refuses."""
-    with asking.Running(newest(words.folder)) as service:
+    with running(newest(words.folder)) as service:
         kind, _, text = service.told(f"{question} " + " ".join(it.hex() if it else "-" for it in contents.values()))[0].partition(" ")
     if kind == "refused":
         raise NotRetired(text)

@@ -77,6 +77,9 @@ async def see_print(host, publishing, printed: str) -> Tuple[int, str]:
 async def see(host, publishing, way: Before, content: Content) -> None:
     """Raises NotRetired unless the next plan may follow without a majority. Publishes the second of the print, if a core here holds it."""
     see_machines(host, way, content)
+    for name in host.cores:
+        # a host that waits for a majority did not ask its cores yet
+        await host.look(name)
     second, _ = await see_print(host, publishing, way.printed)
     # what was looked at may have changed while a core was asked
     see_machines(host, way, content)

@@ -77,6 +77,8 @@ class Service:
         """Whether all began. One of several machines waits for others, so that a majority of the cores is there."""
 
     async def begin(self):
+        # a majority may be lost for good
+        await self.questions.begin(is_waiting=True)
         await self.host.begin(self.cut_every)
         await self.questions.begin()
         self.is_ready = True

@@ -11,7 +11,7 @@ from several import Several
 from test_book import run
 from test_succession import given
 from test_succession_machines import PARENTS, NextMachines, next_plan, rows
-from ksi_service import command_succeed, files, lost, plans
+from ksi_service import asking, command_succeed, files, lost, plans
 from ksi_service.asking import Questions
 from ksi_service.book import book_of
 from ksi_service.command_words import Failed
@@ -22,6 +22,7 @@ from ksi_service.newest import line_of
 from ksi_service.places import Places
 from ksi_service.plan import Plan
 from ksi_service.plans import Before, Content
+from ksi_service.publishing import Publishing
 from ksi_service.succession import BEGUN, NoPart, NotRetired
 
 NEW = {"A": ("c0", "a0"), "D": ("c1", "a1"), "E": ("c2", "a2")}
@@ -33,7 +34,9 @@ class LostTest(Several):
         host = machines.hosts["A"]
         way = Before(host.succession.content, host.succession.origin, tuple(names), printed)
         words = [content.plan.text(), content.machines, way.text()]
-        return (await Questions(host, machines.publishings["A"]).answer(["succeed", *(it.encode().hex() for it in words)]))[0]
+        questions = Questions(host, machines.publishings["A"])
+        questions.is_waiting = not host.may_begin()
+        return (await questions.answer(["succeed", *(it.encode().hex() for it in words)]))[0]
 
     def test_a_majority_is_lost(self):
         async def work(machines):
@@ -46,11 +49,18 @@ class LostTest(Several):
                 self.assertIn(reason, await self.succeed(machines, content, names, printed))
             await machines.crash("B", "C")
             await machines.until(lambda: not any(it.is_there for it in host.peers.values()))
+            # it was started again, and waits for a majority
+            await machines.crash("A")
+            host = machines.hosts["A"] = machines.host("A")
+            await host.start()
+            machines.publishings["A"] = Publishing(host, host.folder, 2)
+            await machines.until(lambda: all(it.alive for it in host.nodes.values()))
+            self.assertIn("waits for others", await self.succeed(machines, content, (), ""))
             self.assertIn("have a majority of the cores", await self.succeed(machines, content, ("B",), printed))
             self.assertIn("B C has a part in the next plan", await self.succeed(machines, next_plan(int(time.time()) + 60), ("B", "C"), printed))
-            known = host.cores["c0"].next - 1
             # an older print, and another root of the last second
             said = await self.succeed(machines, content, ("B", "C"), f"second {host.plan.start}, root {'12' * 32}")
+            known = lost.held_to(host)
             self.assertRegex(said, f"know all seconds to {known}: print `second {known}, root [0-9a-f]{{64}}`, and give that line")
             printed = said.split("`")[1]
             for wrong, reason in ((f"second {known}, root {'12' * 32}", "print `second"), ("none", "is no print"), (f"second {host.plan.start - 1}, root {'12' * 32}", "is not one of this plan")):
@@ -108,6 +118,23 @@ class LostTest(Several):
         host.carrier = SimpleNamespace(reachable=lambda: ["B", "D"])
         with self.assertRaisesRegex(NotRetired, "^D answers: it is not lost"):
             lost.see_machines(host, Before(old, "", ("C", "D", "E")), new)
+
+    def test_the_socket_of_a_host_that_waits(self):
+        async def work():
+            questions = Questions(SimpleNamespace(folder=self.folder, cores={}, plan=Plan(1, 7, ("c0",))))
+
+            def ask(line):
+                with command_succeed.running(self.folder) as service:
+                    return service.told(line)
+            found = []
+            for is_waiting in (True, False):
+                await questions.begin(is_waiting)
+                said = [await asyncio.to_thread(ask, line) for line in ("second", "c0 held 7 1")]
+                found.append((asking.answers(self.folder), *said))
+            await questions.stop()
+            return found
+        self.assertEqual(asyncio.run(work()), [(False, ["refused word"], ["refused word"]), (True, ["6"], ["refused word"])])
+        self.assertEqual([it for it in os.listdir(self.folder) if it.startswith("questions")], [])
 
     def test_other_ways_give_other_names(self):
         content = Content.of(Plan(3, 1000, PARENTS).text(), rows(NEW))
