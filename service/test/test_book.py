@@ -360,7 +360,7 @@ class FivePlansTest(Served):
             self.wait(lambda: len(plans.chain_of(self.folder)) == count and self.status()["ready"])
             if count == 3:
                 # a stand-in's signature is none if the book is signed in the same second
-                time.sleep(2)
+                self.wait(lambda: os.path.exists(os.path.join(plans.newest(self.folder), "book.ksig")))
                 names.append(self.signed(3))
         # no further plan follows, but for the one to which the cores may have retired
         self.kill()
