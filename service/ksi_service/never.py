@@ -12,10 +12,12 @@ import asyncio
 import glob
 import logging
 import os
+import re
 from typing import Any, Dict, List, Optional, Set, Tuple
 
 from . import files
 from .errors import NeedsOperator
+from .inbox import number_in
 from .plans import Before, Content, folder_of, name_of
 
 log = logging.getLogger(__name__)
@@ -23,6 +25,9 @@ log = logging.getLogger(__name__)
 NAME = "never"
 ANSWER_SECONDS, AGAIN_SECONDS = 10.0, 0.5
 """How long answers are waited for, and how often a question is sent meanwhile."""
+DIGEST = re.compile("[0-9a-f]{64}")
+MOST_NAMES = 64
+"""How many plans a machine gives up."""
 
 
 class NotGivenUp(NeedsOperator):
@@ -84,9 +89,9 @@ class Never:
 
     def asked(self, machine: str, fields: Dict[str, Any]) -> None:
         """Another machine asks."""
-        of, name, start = str(fields["of"]), str(fields["next"]), int(fields["start"])
-        if machine not in self.host.outbox.queues:
-            raise ValueError("not a machine of this plan")
+        of, name, start = str(fields["of"]), str(fields["next"]), number_in(fields["start"])
+        if machine not in self.host.outbox.queues or not DIGEST.fullmatch(name) or len(self.names) >= MOST_NAMES:
+            raise ValueError("not a machine of this plan, or not a plan's name")
         held = self.holds(of, name)
         if fields["record"] and not held:
             self.record(of, name, start)

@@ -275,7 +275,7 @@ class Succession:
         second, name = number_in(fields["second"]), str(fields["next"])
         if self.before is not None and (fields["of"], name, second) == (self.before.name, self.name, self.host.plan.start - 1):
             self.keep(machine)
-        elif fields["of"] == self.name and machine in self.host.peers:
+        elif fields["of"] == self.name and machine in self.host.peers and name not in self.never.names:
             if self.me in fields["known"] and self.retired is None:
                 self.host.fail(LostFacts(f"{machine} knows that the cores of this machine retired at second {second}, and the record does not have it: bring back the folder's last state"))
                 return

@@ -40,6 +40,10 @@ class NeverTest(Several):
             self.assertEqual((a.succession.counters()["given_up"], d.succession.counters()["never"]), (names[0][:16], "this plan is given up: it never begins"))
             with self.assertRaisesRegex(NotRetired, "never starts that plan"):
                 a.succession.retire(one)
+            # another machine that retired to it knows of the retirement, which is void
+            report = {"of": a.succession.name, "second": start - 1, "next": names[0], "plan": one.plan.text(), "machines": one.machines, "ended": False, "known": ["A", "B"]}
+            a.inbox.take_one("B", ["retired", report])
+            a.see_tasks()
             self.see_never(d)
             await waiting.end()
             self.see_never(waiting.host("D"))
@@ -97,7 +101,7 @@ class NeverTest(Several):
             self.assertEqual([row[2] for row in sent], [False, True, True, False])
             self.assertEqual((it.names, never.recorded(host.folder)), ({"ab" * 32}, {"ab" * 32}))
             dropped = host.inbox.dropped
-            for machine, words in (("X", question), ("A", {}), ("A", None), ("A", {**question, "start": "later"})):
+            for machine, words in (("X", question), ("A", {}), ("A", None), ("A", {**question, "start": "later"}), ("A", {**question, "next": "../../.."}), ("A", {**question, "next": 7})):
                 host.inbox.take_one(machine, ["never", words])
-            self.assertEqual((host.inbox.dropped - dropped, len(sent)), (4, 4))
+            self.assertEqual((host.inbox.dropped - dropped, len(sent)), (6, 4))
         self.play(work)
