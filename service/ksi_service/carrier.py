@@ -38,8 +38,8 @@ class Carrier(Protocol):
         """Sends a batch to a machine. Returns whether that machine's host received it within `patience` seconds. Never raises for a
         machine that cannot be reached. The host sends a machine one batch at a time."""
 
-    def know(self, addresses: Dict[str, str]) -> None:
-        """From now on the carrier reaches further machines, each at HOST:PORT, and takes their batches."""
+    def add(self, machine: str, address: str) -> None:
+        """Reaches another machine too, at HOST:PORT, and takes its batches."""
 
     def reachable(self) -> Iterable[str]:
         """The machines to which a connection is open, as far as the carrier knows. Shown by `status`; nothing depends on it."""
@@ -98,9 +98,9 @@ class Outbox:
         self.lost = 0
         self.batches = 0
 
-    def know(self, machines: Iterable[str]) -> None:
-        """Sends to further machines too."""
-        self.queues.update({it: Queue() for it in machines})
+    def add(self, machine: str) -> None:
+        """Messages may be sent to another machine too."""
+        self.queues.setdefault(machine, Queue())
         self.more.set()
 
     def send(self, machine: str, message: Message) -> None:

@@ -257,11 +257,10 @@ class HttpsCarrier:
             self.faults[machine] = fault
             log.error("no TLS connection to %s: %s", machine, fault)
 
-    def know(self, addresses: Dict[str, str]) -> None:
-        for machine, address in addresses.items():
-            self.addresses[machine] = address
-            self.resolver.hosts[machine.lower()] = parts_of(address)[0]
-            self.connections.setdefault(machine, collections.deque())
+    def add(self, machine: str, address: str) -> None:
+        self.addresses[machine] = address
+        self.resolver.hosts[machine.lower()] = parts_of(address)[0]
+        self.connections.setdefault(machine, collections.deque())
 
     def reachable(self) -> Iterable[str]:
         return sorted(self.received | {machine for machine, kept in self.connections.items() if kept})

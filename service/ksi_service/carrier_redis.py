@@ -56,7 +56,7 @@ class RedisCarrier:
             raise ServiceError(f"the server's URL cannot be used: {reason}") from None
         self.reading = asyncio.create_task(self.read(take))
 
-    def know(self, addresses: Dict[str, str]) -> None:
+    def add(self, machine: str, address: str) -> None:
         """Over Redis no plan succeeds another, so there are no further machines."""
 
     async def send(self, machine: str, batch: bytes, patience: float) -> bool:

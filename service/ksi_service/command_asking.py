@@ -7,7 +7,7 @@ import urllib.error
 import urllib.request
 from typing import NamedTuple
 
-from . import bundles, client, extension, files, printing
+from . import bundles, client, command_bundles, extension, files, printing
 from .book import book_in
 from .command_words import DEFAULT, WORDS, Failed, add, at_rest, rests
 from .earlier import AllPublications, earlier_plans, plan_of
@@ -115,22 +115,27 @@ def time_of(signature):
 
 
 def extend(words):
-    """By the service, or if it does not run, by a core's file and by the calendar files of earlier plans. A signature of an earlier plan
-    also gets a bundle."""
+    """Extends a signature. One of an earlier plan also gets a bundle."""
     with open(words.signature, "rb") as file:
         signature = file.read()
     name = words.out or words.signature
-    if rests(words.folder):
-        content, book = extended_by_file(words.folder, signature)
-    else:
-        content, book = ask(words.folder, "/extend", signature, "application/octet-stream"), book_of(words.folder)
+    content = extension_by(words.folder, signature)
     files.write(name, content)
     print(f"extended {name}")
-    save_bundle(f"{name}.bundle", content, book)
+    command_bundles.save(name, content, book_of(words.folder))
+
+
+def extension_by(folder, signature):
+    """An extended signature: by the service, or if it does not run by a core's file, and for earlier plans by their calendar files."""
+    if rests(folder):
+        return extended_by_file(folder, signature)
+    return ask(folder, "/extend", signature, "application/octet-stream")
 
 
 def book_of(folder):
-    """The book of a running service or mirror with its signature, or None if it has none."""
+    """The book of a service or a mirror with its signature, or None if it has none."""
+    if rests(folder):
+        return book_in(newest(folder))
     try:
         return ask(folder, "/v1/book")
     except NoAnswer as reason:
@@ -139,17 +144,7 @@ def book_of(folder):
         return None
 
 
-def save_bundle(name, signature, book):
-    """Saves the bundle of a signature, if the book has its publication."""
-    parts = bundles.unpacked(book, (bundles.BOOK, bundles.BOOK_SIGNATURE)) if book else {}
-    last = bundles.publication_of(signature)
-    if parts and any(second == last for second, _ in published_in(parts[bundles.BOOK])):
-        files.write(name, bundles.packed({bundles.SIGNATURE: signature, **parts}))
-        print(f"saved {name}: its plan is over, and the bundle leads to the publication of second {bundles.publication_of(parts[bundles.BOOK_SIGNATURE])}")
-
-
 def extended_by_file(folder, signature):
-    """An extension by the files of a service that does not run, and its book, if it has one."""
     with at_rest(folder):
         last = newest(folder)
         plan = plan_of(earlier_plans(last), Plan.read(os.path.join(last, "plan")).start, signature)
@@ -157,7 +152,7 @@ def extended_by_file(folder, signature):
         if plan is None and published.last() is None:
             raise Failed(f"nothing was published yet over {last}")
         try:
-            return plan.extended(signature) if plan else extension.extend_stopped(last, signature, published), book_in(last)
+            return plan.extended(signature) if plan else extension.extend_stopped(last, signature, published)
         except extension.NotExtended as reason:
             raise Failed(str(reason)) from None
 
@@ -213,7 +208,7 @@ def verify(words):
         raise Failed(f"{words.signature}: no such file; `ksi-service sign {words.file}` makes one")
     content = files.content_of(words.signature)
     if bundles.is_bundle(content):
-        print_shown(bundles.verified(bundles.unpacked(content, bundles.PARTS), digest_of(words.file), words.publications))
+        command_bundles.verify(content, digest_of(words.file), words.publications)
         return
     try:
         print(ksi("verify", words.signature, digest_of(words.file), words.publications))
@@ -222,14 +217,6 @@ def verify(words):
         if refused.line.startswith("refused V13 "):
             hint = f" (the signature is not extended to a publication of that file: ksi-service extend {words.signature}, and ksi-service publications)"
         raise Failed(f"{refused}{hint}") from None
-
-
-def print_shown(shown):
-    """Prints the two times that a bundle shows."""
-    print(f"recorded in second {shown.second} ({date(shown.second)}); existed before {date(shown.printed[0])}, the date of the print that you compared")
-    print(f"to be compared with a print: {line_of(*shown.printed)}")
-    if shown.note:
-        print(f"the book notes of the plan after: {shown.note}")
 
 
 def add_asking(commands, name, does, told, *words, out=None):

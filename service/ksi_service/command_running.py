@@ -12,7 +12,7 @@ import time
 from . import files, joining, logs, running, service
 from .clocks import DEFAULT_BOUND, ClockCheck
 from .command_asking import ask, door
-from .command_words import DEFAULT, WORDS, Failed, add, natural, positive, seconds_of
+from .command_words import Failed, add, natural, positive, seconds_of
 from .door_words import add_door_words, words_of
 from .host import WITHOUT
 from .plan import SECONDS

@@ -15,7 +15,7 @@ import logging
 import os
 import shutil
 import time
-from typing import Callable, Dict, List, Optional, Sequence, Set, Tuple
+from typing import Callable, Dict, List, Optional, Sequence, Set
 
 from . import evidence, files, roots
 from .calendar_files import SECONDS, Calendar, PlanName

@@ -1,7 +1,7 @@
 """A next plan that got no majority is given up: its hosts record that they never start it. Then the machines that retired to it are free.
 
 A machine that retired votes no more, and retires once. So machines that retired to different plans may leave each of them without a
-majority. `succeed --never` asks every machine of such a plan whether it holds enough retirements to begin. If none does, it has each of
+majority. `succeed --never` asks every machine of such a plan that has a core whether it holds enough retirements to begin. If none does, it has each of
 them record that it never starts the plan, in a file `never` of the plan's folder. With that of all of them, no core of the plan is ever
 given a line, so the machine that asks may vote again and retire anew. If one of them does not answer, nothing changes.
 
@@ -108,7 +108,8 @@ class Never:
         it = self.succession
         made = Before(it.content, it.origin, *((way.lost, way.printed, way.alone) if way else ()))
         name = name_of(content.plan, content.nodes, made.origin)
-        others = [machine for machine in content.nodes if machine != it.me]
+        # a machine without a core gives no core a line
+        others = [machine for machine in content.nodes if machine != it.me and content.cores_of(machine)]
         if not self.host.peers:
             raise NotGivenUp("a plan of one machine is followed by its own retirement alone, which nothing takes back")
         if self.holds(it.name, name):
@@ -172,6 +173,6 @@ class Never:
 
 def know(host, addresses: Dict[str, str]) -> None:
     """Lets the host talk to further machines."""
-    new = {machine: address for machine, address in addresses.items() if machine not in host.outbox.queues}
-    host.carrier.know(new)
-    host.outbox.know(new)
+    for machine in addresses.keys() - host.outbox.queues.keys():
+        host.carrier.add(machine, addresses[machine])
+        host.outbox.add(machine)

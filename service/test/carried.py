@@ -52,8 +52,8 @@ class InProcess:
         await asyncio.sleep(0)
         return bool(delays) and machine in self.reachable()
 
-    def know(self, addresses):
-        pass
+    def add(self, machine, address):
+        """Every machine reaches every other one."""
 
     def reachable(self):
         return [it for it in self.wire.takes if it != self.machine and (self.machine, it) not in self.wire.cut]

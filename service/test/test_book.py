@@ -20,6 +20,7 @@ from ksi_service.earlier import earlier_plans
 from ksi_service.elements import extended as put_together
 from ksi_service.elements import Malformed, parts_of, publications_file, published_in
 from ksi_service.evidence import date
+from ksi_service.mirror import Mirror
 from ksi_service.mirror_book import Books
 from ksi_service.mirror_extending import extended
 from ksi_service.mirror_service import MirrorHouse
@@ -367,8 +368,19 @@ class FivePlansTest(Served):
         self.start("--succeed-after", "0")
         self.wait(lambda: "retired" not in self.status() and self.ask("/v1/book")[0] == 200)
         self.see(names)
+        self.see_mirror()
         self.command("stop")
         self.see(names[:1])
+
+    def see_mirror(self):
+        """A mirror has all plans and the book."""
+        folder = os.path.join(self.room.name, "mirror")
+        self.assertIn(" agrees\n", run(self, "mirror", f"http://{self.door()[0]}", folder, "--once"))
+        published = published_in(self.ask("/publications")[1])
+        mirror = Mirror(folder, ["http://127.0.0.1:1"])
+        self.assertEqual(mirror.published(), [it for it in published if it[0] <= mirror.published()[-1][0]])
+        self.assertEqual([it.start for it in mirror.plans], [plans.content_in(it).plan.start for it in plans.chain_of(self.folder)])
+        self.assertIsNotNone(Books(mirror).content)
 
     def see(self, names):
         """All signatures of plans that are over verify against the last print alone."""

@@ -105,7 +105,7 @@ class HttpsTest(unittest.IsolatedAsyncioTestCase):
         alone = {it: address for it, address in self.addresses.items() if it != "C"}
         here, there = await self.carrier("A", addresses=dict(alone)), await self.carrier("C")
         self.assertFalse(await there.send("A", b"1\n", 5))
-        here.know({"C": self.addresses["C"]})
+        here.add("C", self.addresses["C"])
         self.assertTrue(await here.send("C", b"2\n", 5))
         self.assertTrue(await there.send("A", b"3\n", 5))
         self.assertEqual(self.came, [("C", "A", b"2\n"), ("A", "C", b"3\n")])
