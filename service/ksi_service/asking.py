@@ -25,6 +25,8 @@ ANSWER_SECONDS = 60.0
 """How long an answer is waited for."""
 MOST_BYTES = 4 << 20
 """How long a question may be: the next plan has at most 4,096 aggregators."""
+WAITS = ["refused this machine waits for others, so that a majority of the cores is there"]
+"""The answer of a host that waits."""
 DOWN = ["down"]
 """The answer for a core that does not run."""
 
@@ -89,7 +91,7 @@ class Questions:
 
     async def answer(self, words: List[str]) -> List[str]:
         if self.is_waiting and words[:1] != ["succeed"]:
-            return ["refused word"]
+            return WAITS
         if words == ["second"]:
             return [str(self.held_to())]
         if len(words) == 4 and words[0] in ("succeed", "never"):
@@ -111,7 +113,7 @@ class Questions:
             if way and way.lost:
                 await lost.see(self.host, self.publishing, way, content)
             elif self.is_waiting:
-                return ["refused this machine waits for others, so that a majority of the cores is there"]
+                return WAITS
             second, name = self.host.succession.retire(content, way)
         except (NeedsOperator, ValueError) as reason:
             return [f"refused {reason}"]

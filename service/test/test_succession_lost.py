@@ -133,7 +133,7 @@ class LostTest(Several):
                 found.append((asking.answers(self.folder), *said))
             await questions.stop()
             return found
-        self.assertEqual(asyncio.run(work()), [(False, ["refused word"], ["refused word"]), (True, ["6"], ["refused word"])])
+        self.assertEqual(asyncio.run(work()), [(False, asking.WAITS, asking.WAITS), (True, ["6"], ["refused word"])])
         self.assertEqual([it for it in os.listdir(self.folder) if it.startswith("questions")], [])
 
     def test_other_ways_give_other_names(self):
