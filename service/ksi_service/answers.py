@@ -9,6 +9,7 @@ PROBLEM_TYPE = "application/problem+json"
 TEXT = "text/plain; charset=utf-8"
 BYTES = "application/octet-stream"
 JSON = "application/json"
+ZIP = "application/zip"
 
 
 class Problem(NamedTuple):
@@ -63,6 +64,7 @@ PROBLEMS: Dict[str, Problem] = {
     "not-in-order": Problem(HTTPStatus.CONFLICT, "The first publication is after the second"),
     "not-published": Problem(HTTPStatus.NOT_FOUND, "The server has no publication of that second"),
     "no-such-calendar": Problem(HTTPStatus.NOT_FOUND, "The server has no calendar with both seconds"),
+    "no-book": Problem(HTTPStatus.NOT_FOUND, "The server has no book of earlier plans"),
     "no-proof": Problem(HTTPStatus.CONFLICT, "The calendar files give no proof"),
     "too-many-proofs": Problem(HTTPStatus.SERVICE_UNAVAILABLE, "Too many proofs are wanted"),
     "program-failed": Problem(HTTPStatus.SERVICE_UNAVAILABLE, "A program of the service failed"),

@@ -2,36 +2,41 @@
 
 A request is one line, `second` or `NODE held FIRST COUNT`, and its answer is a block of lines that ends with `.`, as that of a node. Questions
 change nothing, and an answer leaves only after the record has the steps that it follows from. And `succeed PLAN MACHINES SUCCEEDS` lets the
-machine's cores retire: the three files of the next plan in hex, or `-` for one that is missing."""
+machine's cores retire: the three files of the next plan in hex, or `-` for one that is missing. `never` with the same words gives that
+plan up (never.py)."""
 import asyncio
 import contextlib
 import os
 import socket
 from typing import List, Optional
 
-from . import files
+from . import files, lost
 from .errors import NeedsOperator
 from .lines import Down
 from .plans import Before, Content
 from .proved import Refused
 
-NAME = "questions"
+NAME, WAITING = "questions", "questions-waiting"
+"""The names of the socket: of a service that runs, and of one that waits for a majority. The latter only takes `succeed` for a plan that
+follows without a majority."""
 AT_ONCE = 1024
 """Of how many seconds a core is asked at once."""
 ANSWER_SECONDS = 60.0
 """How long an answer is waited for."""
 MOST_BYTES = 4 << 20
 """How long a question may be: the next plan has at most 4,096 aggregators."""
+WAITS = ["refused this machine waits for others, so that a majority of the cores is there"]
+"""The answer of a host that waits."""
 DOWN = ["down"]
 """The answer for a core that does not run."""
 
 
-def socket_in(folder: str, does: str) -> socket.socket:
+def socket_in(folder: str, does: str, name: str = NAME) -> socket.socket:
     """A socket that is bound or connected to a folder's. The path of a socket is at most 107 bytes long, and that of a folder may be longer."""
     number = os.open(folder, os.O_RDONLY | os.O_DIRECTORY)
     made = socket.socket(socket.AF_UNIX)
     try:
-        getattr(made, does)(f"/proc/self/fd/{number}/{NAME}")
+        getattr(made, does)(f"/proc/self/fd/{number}/{name}")
         return made
     except OSError:
         made.close()
@@ -52,17 +57,22 @@ def answers(folder: str) -> bool:
 class Questions:
     """The side of the service."""
 
-    def __init__(self, host) -> None:
+    def __init__(self, host, publishing=None) -> None:
         self.host = host
+        self.publishing = publishing
+        self.is_waiting = False
+        """Whether the host waits for other machines, so that a majority of the cores is there."""
         self.server: Optional[asyncio.AbstractServer] = None
 
     @property
     def path(self) -> str:
-        return os.path.join(self.host.folder, NAME)
+        return os.path.join(self.host.folder, WAITING if self.is_waiting else NAME)
 
-    async def begin(self) -> None:
+    async def begin(self, is_waiting: bool = False) -> None:
+        await self.stop()
+        self.is_waiting = is_waiting
         files.remove(self.path)
-        bound = socket_in(self.host.folder, "bind")
+        bound = socket_in(self.host.folder, "bind", os.path.basename(self.path))
         os.chmod(self.path, 0o600)
         self.server = await asyncio.start_unix_server(self.serve, sock=bound, limit=MOST_BYTES)
 
@@ -80,10 +90,12 @@ class Questions:
         writer.close()
 
     async def answer(self, words: List[str]) -> List[str]:
+        if self.is_waiting and words[:1] != ["succeed"]:
+            return WAITS
         if words == ["second"]:
             return [str(self.held_to())]
-        if len(words) == 4 and words[0] == "succeed":
-            return await self.succeed(*words[1:])
+        if len(words) == 4 and words[0] in ("succeed", "never"):
+            return await getattr(self, words[0])(*words[1:])
         if len(words) != 4 or words[0] not in self.host.cores or words[1] != "held" or not all(it.isdigit() and len(it) < 16 for it in words[2:]):
             return ["refused word"]
         if int(words[3]) > AT_ONCE:
@@ -97,11 +109,26 @@ class Questions:
         """Lets the machine's cores retire. Answers once that is on the disk."""
         try:
             plan, machines, succeeds = ("" if it == "-" else bytes.fromhex(it).decode("ascii") for it in files_in_hex)
-            second, name = self.host.succession.retire(Content.of(plan, machines), Before.parsed(succeeds) if succeeds else None)
+            content, way = Content.of(plan, machines), Before.parsed(succeeds) if succeeds else None
+            if way and way.lost:
+                await lost.see(self.host, self.publishing, way, content)
+            elif self.is_waiting:
+                return WAITS
+            second, name = self.host.succession.retire(content, way)
         except (NeedsOperator, ValueError) as reason:
             return [f"refused {reason}"]
         await self.host.rounds.recorded()
         return [f"retired {second} {name}"]
+
+    async def never(self, *files_in_hex: str) -> List[str]:
+        """Has all machines of a next plan record that they never start it. Answers once that is on the disk."""
+        try:
+            plan, machines, succeeds = ("" if it == "-" else bytes.fromhex(it).decode("ascii") for it in files_in_hex)
+            name = await self.host.succession.never.give_up(Content.of(plan, machines), Before.parsed(succeeds) if succeeds else None)
+        except (NeedsOperator, ValueError) as reason:
+            return [f"refused {reason}"]
+        await self.host.rounds.recorded()
+        return [f"never {name}"]
 
     def held_to(self) -> int:
         """The last second up to which a core of this machine holds all. No publication of this machine is later."""
@@ -111,11 +138,11 @@ class Questions:
 class Running:
     """A core of a service that runs, as `Stopped` is one of a service that does not."""
 
-    def __init__(self, folder: str, name: str = "") -> None:
+    def __init__(self, folder: str, name: str = "", at: str = NAME) -> None:
         self.folder = folder
         self.name = name
         try:
-            self.socket = socket_in(folder, "connect")
+            self.socket = socket_in(folder, "connect", at)
         except OSError as fault:
             raise Refused(1, f"the service over {folder} takes no questions: {fault.strerror}") from None
         self.socket.settimeout(ANSWER_SECONDS)

@@ -5,7 +5,7 @@ import contextlib
 import os
 import random
 import tempfile
-from typing import Callable, Dict, List, NamedTuple, Sequence, Tuple, Union
+from typing import Callable, Dict, List, NamedTuple, Optional, Sequence, Tuple, Union
 
 from . import apart, backup, extension, hours, watched
 from .elements import Malformed, parts_of
@@ -118,14 +118,18 @@ def see_retirements(folders: Folders, say: Callable) -> None:
     """Raises Differs if a machine's cores retired, and one of them was given a line of the vote about a later second, or any line about
     one after that."""
     for record in folders.records:
-        retired = last_state(record)[0].retired
-        if retired is not None:
-            is_after = False
-            for entry in (entry for path in hours.all_names(record) for entry, _ in hours.entries_of(path, True)):
-                is_after = is_after or entry[0] == "retired"
-                if entry[0] == "given" and entry[1][0] == "c":
-                    see_second(record, retired.second, is_after, *entry[1:3])
-            say(f"{record}: the cores retired at second {retired.second}, and were given nothing about a later one")
+        state = last_state(record)[0]
+        last = state.retired.second if state.retired else None
+        if last is None and state.freed is None:
+            continue
+        now: Optional[int] = None
+        for entry in (entry for path in hours.all_names(record) for entry, _ in hours.entries_of(path, True)):
+            if entry[0] in ("retired", "freed"):
+                now = entry[1] if entry[0] == "retired" else None
+            elif entry[0] == "given" and entry[1][0] == "c" and (now is not None or last is not None):
+                see_second(record, last if now is None else now, now is not None, *entry[1:3])
+        if last is not None:
+            say(f"{record}: the cores retired at second {last}, and were given nothing about a later one")
 
 
 def see_second(record: str, last: int, is_after: bool, name: str, line: str) -> None:

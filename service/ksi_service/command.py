@@ -1,11 +1,11 @@
-"""The command `ksi-service`. Its commands are in `command_running.py`, `command_asking.py`, `command_stopped.py`,
-`command_clients.py`, `machines.py`, `command_gateways.py` and `command_mirror.py`."""
+"""The command `ksi-service`. Its commands are in `command_running.py`, `command_succeed.py`, `command_asking.py`,
+`command_stopped.py`, `command_clients.py`, `machines.py`, `command_gateways.py` and `command_mirror.py`."""
 import argparse
 import os
 import sqlite3
 import sys
 
-from . import command_asking, command_clients, command_gateways, command_mirror, command_running, command_stopped, machines
+from . import command_asking, command_clients, command_gateways, command_mirror, command_running, command_stopped, command_succeed, machines
 from .command_words import positive
 from .errors import ServiceError
 from .version import PROTOCOL, version
@@ -16,6 +16,7 @@ def parser_of():
     parser.add_argument("--version", action="version", version=f"ksi-service {version()} (protocol {PROTOCOL} between machines)", help="print the version")
     commands = parser.add_subparsers(dest="command", required=True)
     command_running.add_commands(commands)
+    command_succeed.add_commands(commands)
     command_asking.add_commands(commands)
     command_stopped.add_commands(commands)
     command_clients.add_commands(commands)

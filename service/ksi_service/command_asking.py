@@ -3,15 +3,19 @@ import hashlib
 import http.client
 import os
 import ssl
-import time
 import urllib.error
 import urllib.request
 from typing import NamedTuple
 
-from . import client, extension, files, printing
+from . import bundles, client, command_bundles, extension, files, printing
+from .book import book_in
 from .command_words import DEFAULT, WORDS, Failed, add, at_rest, rests
+from .earlier import AllPublications, earlier_plans, plan_of
 from .elements import Malformed, parts_of, published_in
+from .evidence import date
 from .newest import line_of
+from .plan import Plan
+from .plans import newest
 from .proved import Refused, ksi
 from .publications import Publications
 
@@ -49,6 +53,14 @@ def opener():
     return urllib.request.build_opener(urllib.request.ProxyHandler({}), urllib.request.HTTPSHandler(context=context))
 
 
+class NoAnswer(Failed):
+    """The door refuses, with this status."""
+
+    def __init__(self, status, reason):
+        super().__init__(reason)
+        self.code = status
+
+
 def ask(folder, path, content=None, kind="text/plain"):
     """The body of the door's answer."""
     it = door(folder)
@@ -60,7 +72,7 @@ def ask(folder, path, content=None, kind="text/plain"):
         with opener().open(request, timeout=90) as answer:
             return answer.read()
     except urllib.error.HTTPError as error:
-        raise Failed(error.read().decode(errors="replace").strip()) from None
+        raise NoAnswer(error.code, error.read().decode(errors="replace").strip()) from None
     except (OSError, http.client.HTTPException) as error:
         if files.is_held(folder):
             raise Failed(f"the door at {it.address} does not answer: {getattr(error, 'reason', error)}") from None
@@ -97,38 +109,64 @@ def time_of(signature):
     """The second of a signature, with its date."""
     try:
         second = parts_of(signature).second
-        return f": second {second}, {time.strftime('%Y-%m-%d %H:%M:%S', time.gmtime(second))} UTC"
+        return f": second {second}, {date(second)}"
     except (Malformed, ValueError, OverflowError):
         return ""
 
 
 def extend(words):
-    """By the service, or if it does not run, by a core's file: a folder whose plan is over still extends."""
+    """Extends a signature. One of an earlier plan also gets a bundle."""
     with open(words.signature, "rb") as file:
         signature = file.read()
-    if rests(words.folder):
-        content = extended_by_file(words.folder, signature)
-    else:
-        content = ask(words.folder, "/extend", signature, "application/octet-stream")
-    files.write(words.out or words.signature, content)
-    print(f"extended {words.out or words.signature}")
+    name = words.out or words.signature
+    content = extension_by(words.folder, signature)
+    files.write(name, content)
+    print(f"extended {name}")
+    command_bundles.save(name, content, book_of(words.folder))
+
+
+def extension_by(folder, signature):
+    """An extended signature: by the service, or if it does not run by a core's file, and for earlier plans by their calendar files."""
+    if rests(folder):
+        return extended_by_file(folder, signature)
+    return ask(folder, "/extend", signature, "application/octet-stream")
+
+
+def book_of(folder):
+    """The book of a service or a mirror with its signature, or None if it has none."""
+    if rests(folder):
+        return book_in(newest(folder))
+    try:
+        return ask(folder, "/v1/book")
+    except NoAnswer as reason:
+        if reason.code != 404:
+            raise
+        return None
 
 
 def extended_by_file(folder, signature):
     with at_rest(folder):
-        published = Publications(folder)
-        if published.last() is None:
-            raise Failed(f"nothing was published yet over {folder}")
+        last = newest(folder)
+        plan = plan_of(earlier_plans(last), Plan.read(os.path.join(last, "plan")).start, signature)
+        published = Publications(last)
+        if plan is None and published.last() is None:
+            raise Failed(f"nothing was published yet over {last}")
         try:
-            return extension.extend_stopped(folder, signature, published)
+            return plan.extended(signature) if plan else extension.extend_stopped(last, signature, published)
         except extension.NotExtended as reason:
             raise Failed(str(reason)) from None
+
+
+def published_over(folder):
+    """The publications of a service that does not run, of all its plans."""
+    last = newest(folder)
+    return AllPublications().file(earlier_plans(last), Publications(last).published)
 
 
 def publications(words):
     if words.qr and not words.print:
         raise Failed("--qr needs --print")
-    content = Publications(words.folder).content if rests(words.folder) else ask(words.folder, "/publications")
+    content = published_over(words.folder) if rests(words.folder) else ask(words.folder, "/publications")
     if content is None:
         raise Failed(f"nothing was published yet over {words.folder}")
     kept = files.content_of(words.out)
@@ -163,11 +201,15 @@ def see_kept(words, kept, content):
 
 
 def verify(words):
-    """By the proved `ksi verify`: its own line and status."""
+    """By the proved `ksi verify`: its own line and status. A bundle is verified by it twice."""
     if not os.path.exists(words.publications):
         raise Failed(f"{words.publications}: no such file; `ksi-service publications` saves it")
     if not os.path.exists(words.signature):
         raise Failed(f"{words.signature}: no such file; `ksi-service sign {words.file}` makes one")
+    content = files.content_of(words.signature)
+    if bundles.is_bundle(content):
+        command_bundles.verify(content, digest_of(words.file), words.publications)
+        return
     try:
         print(ksi("verify", words.signature, digest_of(words.file), words.publications))
     except Refused as refused:

@@ -8,6 +8,7 @@ from .command_running import add_anchoring, address_of
 from .command_words import natural, positive
 from .errors import ServiceError
 from .mirror import Mirror
+from .mirror_book import Books
 from .probe import Probe
 from .programs import program
 from .source import FAULTY, UNKNOWN
@@ -57,18 +58,21 @@ def mirror(words):
 
 def once(made, on_publication):
     """Looks at all sources once, prints what each of them does, and exits with the status of the worst one."""
-    made.look()
+    while made.look():
+        pass
+    Books(made).look()
     for it in made.sources:
         print(f"{it.url} {it.state}{': ' + it.reason if it.reason else ''}")
-    if made.seen and made.seen.all:
-        print(f"{len(made.seen.all)} publications, the last one of second {made.seen.last()}")
-        asyncio.run(anchored(made, on_publication))
+    published = made.published()
+    if published:
+        print(f"{len(published)} publications, the last one of second {published[-1][0]}")
+        asyncio.run(anchored(made, on_publication, published[-1]))
     see_states(made)
 
 
-async def anchored(made, on_publication):
-    anchors, last = Anchors(made.folder, on_publication), made.seen.last()
-    anchors.published(last, made.seen.root_of[last])
+async def anchored(made, on_publication, published):
+    anchors = Anchors(made.folder, on_publication)
+    anchors.published(*published)
     await anchors.once()
 
 

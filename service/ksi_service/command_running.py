@@ -1,4 +1,4 @@
-"""The commands that run a service: start, run, stop, status, succeed and clock-accepted."""
+"""The commands that run a service: start, run, stop, status and clock-accepted."""
 import argparse
 import asyncio
 import json
@@ -9,14 +9,13 @@ import subprocess
 import sys
 import time
 
-from . import asking, files, joining, logs, plans, running, service
+from . import files, joining, logs, running, service
 from .clocks import DEFAULT_BOUND, ClockCheck
 from .command_asking import ask, door
-from .command_words import DEFAULT, WORDS, Failed, add, natural, positive, seconds_of
+from .command_words import Failed, add, natural, positive, seconds_of
 from .door_words import add_door_words, words_of
 from .host import WITHOUT
 from .plan import SECONDS
-from .succession import NotRetired
 
 DOOR = os.environ.get("KSI_DOOR", "127.0.0.1:8080")
 LONG_SECONDS, START_SECONDS, STOP_SECONDS = 30, 600, 60
@@ -140,19 +139,6 @@ def status(words):
         print(f"{name:16} {value}")
 
 
-def succeed(words):
-    """Lets the cores of a running service retire to the plan of a folder. Status 3 if they do not: the service goes on."""
-    contents = [files.content_of(os.path.join(words.next, name)) for name in ("plan", "machines", "succeeds")]
-    if contents[0] is None:
-        raise Failed(f"{os.path.join(words.next, 'plan')}: no such file; `ksi-service plan` writes it")
-    with asking.Running(plans.newest(words.folder)) as service:
-        kind, _, text = service.told("succeed " + " ".join(it.hex() if it else "-" for it in contents))[0].partition(" ")
-    if kind != "retired":
-        raise NotRetired(text)
-    second, name = text.split(" ")
-    print(f"this machine's cores retired at second {second}; the plan {name[:16]} begins at second {int(second) + 1}, once a majority of the cores has retired to it")
-
-
 def server(text):
     """The URL of a server, which may have a password and is not printed."""
     if not re.match("(redis|rediss|unix)://.", text):
@@ -209,7 +195,3 @@ def add_commands(commands):
     add(commands, "stop", stop, "stop a service", "folder")
     add(commands, "clock-accepted", accept_clock, "let a service sign again after its clock was set and checked", "folder")
     add(commands, "status", status, "its counters", "folder")
-    one = commands.add_parser("succeed", help="let the next plan follow that of the running service")
-    one.add_argument("next", metavar="NEXT", help="the folder of the next plan, as `ksi-service plan` writes it")
-    one.add_argument("--folder", default=DEFAULT, help=WORDS["folder"])
-    one.set_defaults(does=succeed)

@@ -1,11 +1,13 @@
 """The publications at the HTTP server: `GET /publications` is the file, and `GET /v1/publications` the form that the client prefers.
 
+`GET /v1/book` is the book of the plans before the newest one, with its signature (bundles.py).
+
 The file is `application/octet-stream`, the list `application/json`, and `text/plain` has each publication as it is printed."""
 import functools
 import json
 from typing import Any, Dict, Optional, Sequence, Tuple
 
-from .answers import BYTES, JSON, TEXT, Answer, Refusal
+from .answers import BYTES, JSON, TEXT, ZIP, Answer, Refusal
 from .calendar_door import LISTED, cached, digest_of_list
 from .door_signatures import date_of
 from .elements import published_in
@@ -50,6 +52,10 @@ class PublicationPaths:
     async def file(self, request: Any) -> Answer:
         content = self.content()
         return cached(request, content, digest_of_list(content), BYTES, LISTED)
+
+    async def book(self, request: Any) -> Answer:
+        content = self.house.book()
+        return cached(request, content, digest_of_list(content), ZIP, LISTED)
 
     async def forms(self, request: Any) -> Answer:
         content = self.content()

@@ -1,6 +1,7 @@
 """The files of `ksi`, as far as the host makes them: elements, publications files, mirrors, and a signature's extension
 (docs/FORMATS.md). Nothing here decides whether a signature is good: `ksi verify` does."""
-from typing import Iterator, List, NamedTuple, Optional, Tuple
+from types import MappingProxyType
+from typing import Dict, Iterator, List, Mapping, NamedTuple, Optional, Tuple
 
 MAGIC_PUBLICATIONS, MAGIC_MIRROR = b"KSIPUBLF", b"KSIMIRR1"
 MOST_BODY, MOST_NUMBER = 0xFFFF, 8
@@ -62,11 +63,22 @@ def imprint(kind: int, text: str) -> bytes:
     return element(kind, b"\x01" + bytes.fromhex(text))
 
 
-def publications_file(published: List[Tuple[int, str]]) -> bytes:
-    """The publications file of seconds and their roots in hex, created at the last one's time."""
+def publications_file(published: List[Tuple[int, str]], notes: Mapping[int, str] = MappingProxyType({})) -> bytes:
+    """The publications file of seconds and their roots in hex, created at the last one's time. Notes, by second, are references."""
     last = published[-1][0] if published else 0
-    records = [element(0x703, element(0x10, number(0x02, second), imprint(0x04, root))) for second, root in published]
+    references = {second: element(0x09, it.encode()) for second, it in notes.items()}
+    records = [element(0x703, element(0x10, number(0x02, second), imprint(0x04, root)), references.get(second, b"")) for second, root in published]
     return MAGIC_PUBLICATIONS + element(0x701, number(0x01, 1), number(0x02, last)) + b"".join(records)
+
+
+def notes_in(content: bytes) -> Dict[int, str]:
+    """The references of a publications file, by second."""
+    found = {}
+    for it in (it for it in read(content, len(MAGIC_PUBLICATIONS)) if it.kind == 0x703):
+        parts = list(read(it.body))
+        seconds = [number_of(part.body) for data in parts if data.kind == 0x10 for part in read(data.body) if part.kind == 0x02]
+        found.update({second: part.body.decode(errors="replace") for part in parts if part.kind == 0x09 for second in seconds})
+    return found
 
 
 def published_in(content: bytes) -> List[Tuple[int, str]]:

@@ -73,7 +73,7 @@ class Heartbeat:
         """How many steps the record had when it was opened."""
         self.run_of_host = [self.steps, int(host.now() * 1000)]
         words = [host.plan.text(), sorted((name, list(nodes)) for name, nodes in host.places.full.items()), publish_every]
-        words += [host.succession.before.name] if host.succession.before else []
+        words += [host.succession.before.origin] if host.succession.before else []
         words += [f"after {host.succeed_after}"] if host.succeed_after != SECONDS else []
         text = json.dumps(words)
         self.plan = hashlib.sha256(text.encode()).hexdigest()[:16]

@@ -4,13 +4,14 @@ import collections
 import contextlib
 import logging
 import time
-from typing import Any, Awaitable, Callable, Dict, Iterator, List, Optional, Union
+from typing import Any, Awaitable, Callable, Dict, Iterator, List, Optional, Tuple, Union
 
 from . import extension
 from .admission import Busy
 from .answers import Refusal
 from .calendar_files import Calendar
 from .desk import Batch, Minority, NotSigned, Over
+from .earlier import plan_of
 from .elements import parts_of
 from .houses import Extended, Extensions, House, Signed, Signings
 from .metrics import Spans
@@ -155,9 +156,9 @@ class ServiceHouse(House):
     # extending
 
     async def extend(self, contents: List[bytes], to: Optional[int]) -> Extensions:
-        if self.service.publications.last() is None:
+        if self.service.publications.last() is None and not self.service.earlier:
             raise Refusal("nothing-published", f"nothing was published yet: a core publishes {self.service.publishing.next_time()}")
-        if to is not None and not self.service.publications.has(to):
+        if to is not None and not any(it.has(to) for it in (self.service.publications, *self.service.earlier)):
             raise Refusal("no-such-publication", f"second {to} was not published")
         if self.to_extend + len(contents) > MOST_TO_EXTEND:
             raise Refusal("too-many-extensions", "too many signatures wait to be extended", Retry_After="2")
@@ -170,20 +171,35 @@ class ServiceHouse(House):
     async def extend_one(self, content: bytes, to: Optional[int]) -> Union[Extended, Refusal]:
         try:
             async with self.extending:
-                last = self.service.publications.last() if to is None else to
-                extended = await self.service.extend(content, last)
+                extended, last = await self.extended(content, to)
         except extension.NotExtended as reason:
             return Refusal(reason.code, str(reason))
         parts = parts_of(extended)
         return Extended(parts.imprint, extended, parts.second, last)
 
+    async def extended(self, content: bytes, to: Optional[int]) -> Tuple[bytes, int]:
+        """A signature that is extended to a publication of its plan, and that publication's second."""
+        plan = plan_of(self.service.earlier, self.service.plan.start, content)
+        if plan is not None:
+            work = asyncio.get_running_loop().run_in_executor(None, plan.extended, content, to)
+            return await work, plan.last if to is None else to
+        last = self.service.publications.last() if to is None else to
+        if last is None:
+            raise extension.NotExtended("not-yet-published", f"nothing of this plan was published yet: a core publishes {self.service.publishing.next_time()}")
+        return await self.service.extend(content, last), last
+
     # reading
 
     def publications(self) -> Optional[bytes]:
-        return self.service.publications.content
+        return self.service.all_publications.file(self.service.earlier, self.service.publications.published) if self.service.earlier else self.service.publications.content
+
+    def book(self) -> bytes:
+        if self.service.book.packed is None:
+            raise Refusal("no-book", "this machine has no earlier plan" if self.service.book.content is None else "the book of the earlier plans leads to no publication yet")
+        return self.service.book.packed
 
     def calendars(self) -> Dict[str, Calendar]:
-        return self.service.calendar.calendars()
+        return {**{it.calendar.plan.digest: it.calendar for it in self.service.earlier}, **self.service.calendar.calendars()}
 
     def page(self) -> Optional[bytes]:
         return page()

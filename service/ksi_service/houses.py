@@ -53,6 +53,10 @@ class House(Load):
         """The publications file, if there is a publication."""
         raise NotImplementedError
 
+    def book(self) -> bytes:
+        """The book of the plans before, with its signature (bundles.py). Raises a Refusal if there is none."""
+        raise NotImplementedError
+
     def calendars(self) -> Dict[str, Calendar]:
         """The calendars by their plans' digests."""
         raise NotImplementedError

@@ -10,9 +10,11 @@
     ["found", ID, TEXT or null or false, SECOND]   the answer: a signature and its second, none, or that this cannot be said
     ["alive", {..}]                           a heartbeat (heartbeat.py)
     ["retired", {..}]                         the cores there retired (succession.py)
+    ["never", {..}], ["nevered", {..}], ["freed", {..}]   a next plan is given up (never.py)
 
-A gateway sends and is sent only some of them (gateway_links.py). All but `line` and `retired` are hints: a wrong one costs time, and changes no root. The sender's name is the carrier's, which authenticates it. Of a
-machine whose last heartbeat was refused, or that sent none yet, nothing but `retired` is taken."""
+All but `line` and the last two rows are hints: a wrong one costs time, and changes no root. The sender's name is the carrier's, which
+authenticates it. Of a machine whose last heartbeat was refused, or that sent none yet, nothing but the last two rows is taken. A gateway
+sends and is sent only some of the rows (gateway_links.py)."""
 import logging
 import re
 from typing import Any, Dict
@@ -34,6 +36,7 @@ FROM_ABOVE = {"line", "none", "alive", "retired"}
 LINE = re.compile(r"(?:synod [0-9] [0-9]{1,12} (?:next|last|begin|voted|success)|submission [0-9]{1,4} [0-9]{1,12}|response [0-9]{1,12})(?: [!-~]+)*")
 """The lines that nodes send."""
 HASH = re.compile("[0-9a-f]{64}")
+OF_PLANS = "never", "nevered", "freed"
 SIGNATURE = re.compile("([0-9a-f]{2})+")
 NUMBER_LIMIT = 1 << 63
 
@@ -53,15 +56,15 @@ class Inbox:
         """Lines whose sender is not a node of the machine that sent them."""
         self.kinds: Dict[str, Any] = {"line": self.line, "closed": self.closed, "none": self.none, "ask": self.ask, "got": self.got, "lacks": self.lacks,
                                       "find": self.find, "found": self.found,
-                                      "alive": lambda *words: self.host.heartbeat.take(*words), "retired": lambda *words: self.host.succession.take(*words)}
+                                      "alive": lambda *words: self.host.heartbeat.take(*words), "retired": lambda *words: self.host.succession.take(*words),
+                                      "never": lambda *words: self.host.succession.never.asked(*words), "nevered": lambda *words: self.host.succession.never.answered(*words),
+                                      "freed": lambda *words: self.host.succession.never.freed(*words)}
 
     def take(self, machine: str, batch: bytes) -> None:
         """Takes a batch of another machine."""
         if machine in self.host.succession.former:
             self.host.succession.see_other_plan(machine)
-        if machine not in self.host.peers:
-            self.dropped += 1
-        elif machine in self.host.links.names:
+        if machine in self.host.links.names:
             self.host.links.take(machine, batch)
         else:
             self.take_all(machine, batch)
@@ -80,7 +83,9 @@ class Inbox:
         if self.host.places.is_gateway and kind not in FROM_ABOVE and machine not in self.host.links.names:
             self.dropped += 1
             return
-        if kind not in ("alive", "retired") and not self.host.heartbeat.takes_part(machine):
+        # a machine of the plan before, or of the one after, is no peer
+        is_open = kind in OF_PLANS or machine in self.host.peers and kind in ("alive", "retired")
+        if not is_open and not (machine in self.host.peers and self.host.heartbeat.takes_part(machine)):
             self.dropped += 1
             return
         try:

@@ -78,11 +78,12 @@ def use_python_with(package: str) -> None:
 
 def take_plan(words: Words, folder: str) -> None:
     """Copies the plan that was brought with the file of machines to the machine's folder, at its first start. If it succeeds another
-    plan, the file that names that one comes with it. The plan may also be the last one that was begun over the folder."""
+    plan, the file that names that one comes with it. The plan may also be the last one that was begun over the folder, or one that is to
+    succeed the folder's plan of one machine."""
     brought = files.content_of(words.beside("plan"))
     path = os.path.join(folder, "plan")
     kept = files.content_of(path)
-    if None not in (brought, kept) and brought not in [files.content_of(os.path.join(it, "plan")) for it in plans.chain_of(folder)]:
+    if None not in (brought, kept) and brought not in [files.content_of(os.path.join(it, "plan")) for it in plans.chain_of(folder)] and not grows(words, folder):
         raise OtherPlan(f"{path} is another plan than {words.beside('plan')}: another plan needs another folder")
     if brought is None and kept is None:
         raise NotJoined(f"{words.beside('plan')}: no such file; `ksi-service plan` writes it together with {words.machines}")
@@ -92,8 +93,16 @@ def take_plan(words: Words, folder: str) -> None:
         if succeeds is not None:
             files.write(os.path.join(folder, "succeeds"), succeeds)
         files.write(path, brought)
-    elif succeeds is not None and brought == kept and not os.path.exists(os.path.join(folder, "succeeds")):
-        raise OtherPlan(f"{folder} was begun without {words.beside('succeeds')}, which names the plan before: begin in an empty folder")
+    elif succeeds is not None and brought == kept and files.content_of(os.path.join(folder, "succeeds")) != succeeds:
+        raise OtherPlan(f"{folder} was begun without {words.beside('succeeds')}, which names the plan before, or with another one: begin in an empty folder")
+
+
+def grows(words: Words, folder: str) -> bool:
+    """Whether the plan that was brought is to succeed the newest plan of a folder, which is of one machine."""
+    succeeds = files.content_of(words.beside("succeeds"))
+    before = plans.Before.parsed(succeeds.decode("ascii", "replace")) if succeeds else None
+    kept = files.content_of(os.path.join(plans.newest(folder), "plan"))
+    return before is not None and before.alone != "" and kept is not None and before.content.plan.text().encode() == kept
 
 
 def maker(words: Words) -> Callable[..., Service]:
@@ -103,6 +112,10 @@ def maker(words: Words) -> Callable[..., Service]:
     def make(folder: str, plan: Plan, **options: Any) -> Service:
         # the folder of a plan that succeeded another one on this machine has its own machines
         own = os.path.join(folder, "machines")
+        if not os.path.exists(own) and grows(words, folder):
+            made = Service(folder, plan, **options)
+            made.host.succession.grows_as = me
+            return made
         places = Places.read(own if os.path.exists(own) else words.machines, me, plan)
         before = plans.Before.read(folder)
         former = before.content.addresses if before else {}

@@ -9,7 +9,7 @@ from . import certificates, files, gateways
 from .command_words import natural
 from .errors import ServiceError
 from .plan import Plan, parents_of
-from .plans import Before, content_in
+from .plans import Before, content_in, newest
 
 WORD = re.compile(r"([^=]*)=(\[[0-9A-Fa-f:.]+\]|[A-Za-z0-9.-]+):([0-9]{1,5})(?::(.*))?")
 NODE = re.compile(r"[ca](0|[1-9][0-9]{0,3})")
@@ -108,7 +108,7 @@ def make_plan(words) -> None:
     machines = [machine_of(word) for word in words.machines]
     plan = plan_of(machines, words.parents, first_second(words))
     plan = with_gateways(machines, plan, [gateways.gateway_of(it) for it in words.gateway], words.spares, words.named)
-    write(words.out, machines, plan, before_in(words.of))
+    write(words.out, machines, plan, grown(before_in(words.of), words.alone, [it.name for it in machines]))
     print(f"saved {os.path.join(words.out, 'plan')} and {os.path.join(words.out, 'machines')}, the same for all machines{first_in(plan)}")
 
 
@@ -134,12 +134,22 @@ def first_in(plan: Plan) -> str:
     return f"; the first second is {plan.start}, {time.strftime('%Y-%m-%d %H:%M:%S', time.gmtime(plan.start))} UTC"
 
 
+def grown(before: Optional[Before], alone: Optional[str], names: List[str]) -> Optional[Before]:
+    """The plan before, with the name that its only machine has among several, if it has one machine."""
+    is_alone = before is not None and not before.content.machines
+    if is_alone != bool(alone) or alone and alone not in names:
+        raise NotPlanned("--alone names the machine of the next plan that is the only one of the plan before, and nothing else" if alone
+                         else "the plan before has one machine: --alone NAME says which machine of the next plan that is")
+    return before.by({"alone": alone}) if before and alone else before
+
+
 def before_in(folder: Optional[str]) -> Optional[Before]:
-    """The plan of a folder, as the one that a new plan succeeds."""
+    """The newest plan of a folder, as the one that a new plan succeeds."""
     if folder is None:
         return None
+    folder = newest(folder)
     before = Before.read(folder)
-    return Before(content_in(folder), before.name if before else "")
+    return Before(content_in(folder), before.origin if before else "")
 
 
 def replace(words) -> None:
@@ -213,6 +223,7 @@ def add_commands(commands, positive) -> None:
     one.add_argument("--named", action="store_true", help="hash the gateways' names into the tree: signatures show through which gateway they were made")
     one.add_argument("--spares", type=natural, default=0, metavar="NUMBER", help="for how many gateways aggregators are left over, so that `gateway add` can add them while the service runs (default 0)")
     one.add_argument("--cores", type=int, choices=range(1, 10), metavar="1..9", help="how many cores a plan of one machine has: 3")
+    one.add_argument("--alone", metavar="NAME", help="with --of the folder of a service of one machine: the name of that machine in a plan of several")
     add_next(one, positive, 1)
     one.set_defaults(does=make_plan)
     one = commands.add_parser("replace", help="write the plan with which a new machine takes the place of another one, and its certificate")

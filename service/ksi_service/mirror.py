@@ -4,6 +4,9 @@
 The calendar of the mirror ends at the last publication that it recomputed. Later roots are in the views of the sources: they may be wrong,
 since nothing shows yet that anybody published them. So a root that the mirror serves never changes.
 
+A mirror goes from plan to plan. It begins with the first plan that its sources list. Once most of those that answer publish a later one, and
+the mirror has all publications of its own, it follows the next plan. It keeps and serves the plans from before, and the book (book.py).
+
 A source is at fault if its roots do not give its publications. A fork is two publications that are not of one calendar, each of which the
 roots of its source give."""
 import concurrent.futures
@@ -12,10 +15,11 @@ import logging
 import os
 import shutil
 import time
-from typing import Callable, Dict, List, Optional, Sequence, Set, Tuple
+from typing import Callable, Dict, List, Optional, Sequence, Set
 
 from . import evidence, files, roots
 from .calendar_files import SECONDS, Calendar, PlanName
+from .earlier import Earlier, all_published, of_mirror, plans_in
 from .elements import Malformed
 from .errors import NeedsOperator
 from .evidence import Fork, Side
@@ -54,11 +58,16 @@ class Mirror:
         self.looked: Optional[float] = None
         """When the last look ended."""
         self.faults = 0
-        plan = plan_in(folder)
-        self.is_kept = plan is not None
-        """Whether the plan is on the disk. It is after the first publication: until then a source may have lied about it."""
-        if plan:
-            self.open(plan)
+        self.plans = plans_in(folder)
+        """The plans on the disk, one after the other. A plan is there after its first publication: until then a source may have lied."""
+        self.is_kept = bool(self.plans)
+        """Whether the plan that the mirror follows is on the disk."""
+        self.earlier: List[Earlier] = of_mirror(folder, self.plans[:-1])
+        """The plans from before."""
+        self.after = self.earlier[-1].start if self.earlier else -1
+        """The first second of the last plan that is over."""
+        if self.plans:
+            self.open(self.plans[-1])
 
     # the files
 
@@ -102,24 +111,55 @@ class Mirror:
 
     # a look at all sources
 
-    def look(self) -> None:
-        """Fetches what is new from all sources, recomputes new publications, and judges sources that differ."""
+    def look(self) -> bool:
+        """Fetches what is new from all sources, recomputes new publications, and judges sources that differ. Returns whether it went on to
+        the next plan."""
         self.fresh = set()
         if not self.is_kept:
             self.find()
         if self.calendar is None:
-            return
+            return False
         with concurrent.futures.ThreadPoolExecutor(max(1, len(self.sources))) as pool:
             list(pool.map(self.ask, self.sources))
         self.compare(self.confirm())
         self.looked = self.now()
+        is_over = self.is_over()
+        if is_over:
+            self.go_on()
+        return is_over
+
+    def is_over(self) -> bool:
+        """Whether most of the services that answer publish a later plan, and the mirror has all publications of its own."""
+        doors = [it for it in self.sources if it.is_door and it.is_there]
+        later = [it for it in doors if it.is_later and it.state == AGREES]
+        return not self.is_frozen and 2 * len(later) > len(doors) and all(self.seen.has(*row) for it in later for row in it.published)
+
+    def go_on(self) -> None:
+        """Follows the next plan."""
+        plan, folder = self.calendar.plan, os.path.dirname(self.calendar.folder)
+        shutil.rmtree(os.path.join(folder, "views") if self.is_kept else folder, ignore_errors=True)
+        if self.is_kept:
+            self.earlier = [*self.earlier, Earlier(self.calendar, self.seen.path, self.mine_published())]
+        self.after = plan.start
+        self.calendar, self.seen, self.is_kept = None, None, False
+        self.computed.clear()
+        log.info("the plan %s is over", plan.digest)
+        self.find()
+
+    def mine_published(self) -> List[Published]:
+        """The publications of the plan that the mirror follows."""
+        return sorted((it.second, it.root) for it in self.seen.all) if self.seen else []
+
+    def published(self) -> List[Published]:
+        """The publications of all plans."""
+        return all_published(self.earlier, self.mine_published())
 
     def find(self) -> None:
-        """Follows the plan that most sources have."""
+        """Follows the plan that most sources have as the first one, or as the next one."""
         found: List[PlanName] = []
         for source in (it for it in self.sources if it.is_door):
             try:
-                found.append(source.find_plan(None)[0])
+                found.append(source.find_plan(None, self.after)[0])
             except Unknown as reason:
                 self.note(source, UNKNOWN, str(reason))
         if found:
@@ -208,7 +248,8 @@ class Mirror:
     def add(self, published: Published, listers: List[Source]) -> None:
         second, root = published
         if not self.is_kept:
-            files.write(os.path.join(self.folder, "plan"), f"{self.calendar.plan.digest} {self.calendar.plan.start}\n".encode())
+            self.plans.append(self.calendar.plan)
+            files.write(os.path.join(self.folder, "plan"), "".join(f"{it.digest} {it.start}\n" for it in self.plans).encode())
             self.is_kept = True
         self.seen.add(Seen(second, root, int(self.now()), " ".join(it.url for it in listers)))
         log.info("publication of second %d, root %s, seen at %s", second, root, " ".join(it.url for it in listers))
@@ -294,14 +335,3 @@ class Mirror:
         names = [source.url] + ([f"{giver.url} (its roots)"] if giver is not source else [])
         other = Side(names, int(self.now()), *published, source.list, giver.file_roots(self.calendar, number))
         return Fork(self.calendar.plan, second, number, source.is_door or giver.is_door, one, other, front)
-
-
-def plan_in(folder: str) -> Optional[PlanName]:
-    """The plan that a mirror's folder follows, if it does."""
-    content = files.content_of(os.path.join(folder, "plan"))
-    if content is None:
-        return None
-    words: Tuple[str, ...] = tuple(content.decode("ascii", "replace").split())
-    if len(words) != 2 or len(words[0]) != 64 or not words[1].isdigit():
-        raise Broken(f"{os.path.join(folder, 'plan')} is damaged, or {folder} is no mirror's folder")
-    return PlanName(words[0], int(words[1]))

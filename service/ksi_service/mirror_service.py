@@ -12,13 +12,17 @@ from . import extension, files, roots
 from .access import Access
 from .anchors import Anchors
 from .answers import Refusal
+from .bundles import publication_of
 from .calendar_files import BadFile, Calendar
 from .door import MOST_CONNECTIONS, Door
+from .earlier import AllPublications
 from .elements import parts_of
 from .evidence import date
 from .house import MOST_TO_EXTEND
 from .houses import Extended, Extensions, House, Signed, Signings
 from .mirror import Mirror
+from .mirror_book import Books
+from .mirror_extending import extended
 from .mirror_metrics import prometheus
 from .notify import notify
 from .opening import open_files, opened
@@ -53,6 +57,8 @@ class MirrorHouse(House):
         self.mirror = mirror
         self.anchors = anchors
         self.probe = probe
+        self.books = Books(mirror)
+        self.all_publications = AllPublications()
         self.extending = asyncio.Semaphore(2)
         self.to_extend = 0
 
@@ -79,17 +85,23 @@ class MirrorHouse(House):
 
     def calendars(self) -> Dict[str, Calendar]:
         calendar = self.mirror.calendar
-        return {calendar.plan.digest: calendar} if calendar else {}
+        return {it.plan.digest: it for it in [*(it.calendar for it in self.mirror.earlier), *([calendar] if calendar else [])]}
 
     def publications(self) -> Optional[bytes]:
         seen = self.mirror.seen
+        if self.mirror.earlier:
+            return self.all_publications.file(self.mirror.earlier, self.mirror.mine_published())
         return seen.content if seen and seen.all else None
 
+    def book(self) -> bytes:
+        if self.books.content is None:
+            raise Refusal("no-book", "no service had a book of earlier plans")
+        return self.books.content
+
     async def extend(self, contents: List[bytes], to: Optional[int]) -> Extensions:
-        seen = self.mirror.seen
         if self.publications() is None:
             raise Refusal("nothing-published", "no publication was seen yet")
-        if to is not None and to not in seen.root_of:
+        if to is not None and not any(second == to for second, _ in self.mirror.published()):
             raise Refusal("no-such-publication", f"second {to} was not published")
         if self.to_extend + len(contents) > MOST_TO_EXTEND:
             raise Refusal("too-many-extensions", "too many signatures wait to be extended", Retry_After="2")
@@ -102,16 +114,13 @@ class MirrorHouse(House):
     async def extend_one(self, content: bytes, to: Optional[int]) -> Union[Extended, Refusal]:
         try:
             async with self.extending:
-                last = self.mirror.seen.last() if to is None else to
-                made = await asyncio.get_running_loop().run_in_executor(None, extended, self.mirror, content, last)
+                made = await asyncio.get_running_loop().run_in_executor(None, extended, self.mirror, content, to)
         except extension.NotExtended as reason:
             return Refusal(reason.code, str(reason))
-        except roots.NotComputed as reason:
-            return Refusal("not-accepted", str(reason))
         except roots.NotRun as reason:
             raise Refusal("program-missing", str(reason), Retry_After="10") from None
         parts = parts_of(made)
-        return Extended(parts.imprint, made, parts.second, last)
+        return Extended(parts.imprint, made, parts.second, publication_of(made))
 
     def page(self) -> bytes:
         mirror = self.mirror
@@ -121,34 +130,28 @@ class MirrorHouse(House):
         forks = f"<strong>{count} fork{'s' if count > 1 else ''} found: see the folder evidence.</strong>" if count else "No fork was found."
         sources = "".join(cells(it.url, it.state, it.reason) for it in mirror.sources)
         rows = "".join(cells(f"{it.second}, {date(it.second)}", it.root, f"{date(it.time)} at {it.source}") for it in reversed(mirror.seen.all[-MOST_ROWS:]))
+        rows += "".join(cells(f"{second}, {date(second)}", root, "an earlier plan") for it in reversed(mirror.earlier) for second, root in reversed(it.published[-MOST_ROWS:]))
         plan = mirror.calendar.plan
         return PAGE.format(plan=plan.digest, start=plan.start, last=mirror.calendar.next - 1, forks=forks, sources=sources, rows=rows).encode()
 
     def counters(self) -> Dict[str, Any]:
         mirror = self.mirror
-        seen = mirror.seen
+        published = mirror.published()
         return {
             "plan": mirror.calendar.plan.digest if mirror.calendar else "",
             "last_second": mirror.calendar.next - 1 if mirror.calendar else 0,
-            "publications": len(seen.all) if seen else 0, "last_publication": seen.last() if seen else 0,
+            "publications": len(published), "last_publication": published[-1][0] if published else 0, "plans": len(mirror.plans),
             "looked": int(mirror.looked or 0), "forks": len(mirror.cases), "frozen": mirror.is_frozen, "faults": mirror.faults,
             "sources": [it.told() for it in mirror.sources],
             **(self.probe.counters() if self.probe else {}), **self.anchors.counters(),
         }
 
 
-def extended(mirror: Mirror, signature: bytes, to: Optional[int] = None) -> bytes:
-    """A signature that is extended to the publication of a second, or to the last one, and that `ksi verify` accepts against the mirror's
-    publications."""
-    last = mirror.seen.last() if to is None else to
-    parts = extension.wanted(signature, last)
-    return extension.accepted(lambda: roots.extended(mirror.calendar.folder, signature, last), parts, mirror.seen.path)
-
-
-def look(mirror: Mirror) -> None:
+def look(mirror: Mirror, books: Books) -> None:
     """Looks at the sources. What fails now may work the next time; the mirror's own damaged files end it."""
     try:
         mirror.look()
+        books.look()
     except roots.NotRun as error:
         log.warning("the look failed: %s", error)
     except (OSError, BadFile, roots.NotComputed) as error:
@@ -163,10 +166,9 @@ async def looks(mirror: Mirror, house: MirrorHouse, every: float) -> None:
     loop = asyncio.get_running_loop()
     while True:
         began = time.monotonic()
-        await loop.run_in_executor(None, look, mirror)
+        await loop.run_in_executor(None, look, mirror, house.books)
         if house.publications() is not None:
-            last = mirror.seen.last()
-            house.anchors.published(last, mirror.seen.root_of[last])
+            house.anchors.published(*mirror.published()[-1])
         if house.probe:
             await loop.run_in_executor(None, house.probe.look)
         await asyncio.sleep(max(0.1, every - (time.monotonic() - began)))

@@ -70,7 +70,7 @@ async def opened_identity(folder, service, start):
     path = f"{start.identity_at}.{digest[:16]}" if start.identity_at and before else start.identity_at
     words = folder, digest, host.record.state.steps, host.places.me, path
     retired = host.record.state.retired
-    has_retired = retired is not None
+    has_retired = retired is not None or host.record.state.freed is not None
     found = identity.moved_in(*words, has_retired=has_retired) if start.moved else identity.opened(*words, log.warning, has_retired)
     if retired is not None:
         found.retired(*retired)

@@ -1,7 +1,7 @@
 """The operations of the HTTP API below /v1, with the codes that each may refuse with. `openapi.py` makes the document of them."""
 from typing import Any, Dict, List, NamedTuple, Tuple
 
-from .answers import BYTES, JSON
+from .answers import BYTES, JSON, ZIP
 from .door_extensions import MOST_SIGNATURES
 from .door_signatures import DIGESTS, MOST_HASHES
 
@@ -64,6 +64,7 @@ OPERATIONS: List[Operation] = [
     Operation(
         "get", "/v1/publications", "publications", "The publications: as the file that verifiers take, as JSON, or as the text to be printed.", {},
         {BYTES: {}, JSON: ref("Publications"), TEXT: {"type": "string"}}, (*ANY, "no-publication"), is_cached=True),
+    Operation("get", "/v1/book", "book", "The book of the plans before the newest one, with its signature.", {}, {ZIP: {}}, (*ANY, "no-book"), is_cached=True),
     Operation("get", "/v1/calendar", "calendars", "The calendars that the server has.", {}, {JSON: ref("Calendars")}, ANY, is_cached=True),
     Operation(
         "get", "/v1/calendar/{plan}/{number}", "calendarFile", "A calendar file: the roots of 4,096 seconds.", {}, {BYTES: {}}, (*ANY, "no-such-file"),

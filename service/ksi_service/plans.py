@@ -4,7 +4,7 @@ The data folder of a plan has the folder of the next plan in `plans/START-DIGEST
 succeeds another has three files more than the first plan's:
 
     machines       the machines of this plan, unless it has one machine
-    succeeds       the plan before: its file, its machines, and the name of the plan before that one
+    succeeds       the plan before: its file, its machines, the origin of that plan, and how this one follows if not in the usual way
     retirements    which machines of the plan before retired to this plan
 
 Once a host has ended for good since its plan was succeeded, its folder has the file `next` with the path of the next plan's folder."""
@@ -14,7 +14,7 @@ import os
 import re
 from dataclasses import dataclass
 from functools import cached_property
-from typing import Dict, Iterable, List, Optional, Set, Tuple
+from typing import Any, Dict, Iterable, List, Optional, Set, Tuple
 
 from . import files
 from .errors import NeedsOperator, ServiceError
@@ -38,8 +38,8 @@ class Lost(NeedsOperator):
 
 
 def name_of(plan: Plan, nodes: Nodes, before: str) -> str:
-    """The name of a plan: a digest of its file, of its machines with their nodes, and of the name of the plan that it succeeds, or of no
-    name. Addresses and gateways may change and are no part of it. Two plans with the same file on other machines have different names: their cores
+    """The name of a plan: a digest of its file, of its machines with their nodes, and of the origin of the plan that it succeeds (`Before`),
+    or of no name. Addresses and gateways may change and are no part of it. Two plans with the same file on other machines have different names: their cores
     have the same numbers and are other cores."""
     rows = sorted([machine, list(its)] for machine, its in without_gateways(nodes).items())
     return hashlib.sha256(json.dumps(["ksi-plan", plan.text(), rows, before]).encode()).hexdigest()
@@ -83,25 +83,57 @@ class Content:
 
 @dataclass(frozen=True)
 class Before:
-    """The plan that a folder's plan succeeds."""
+    """The plan that a folder's plan succeeds, and how."""
 
     content: Content
     before: str
-    """The name of the plan that this one succeeded, or no name."""
+    """The origin of that plan: `origin` of the plan before it, or no name."""
+    lost: Tuple[str, ...] = ()
+    """Its machines that are lost, if the plan after it begins without a majority (lost.py)."""
+    printed: str = ""
+    """Then its last print, as a line."""
+    alone: str = ""
+    """The name that its only machine has in the plan after, if that plan has several."""
 
     @cached_property
     def name(self) -> str:
         return name_of(self.content.plan, self.content.nodes, self.before)
 
+    @property
+    def ways(self) -> Dict[str, Any]:
+        """How the plan after follows, if not in the usual way."""
+        fields = {"lost": list(self.lost), "print": self.printed, "alone": self.alone}
+        return {name: it for name, it in fields.items() if it}
+
+    @cached_property
+    def origin(self) -> str:
+        """The part of the next plan's name that is about this plan: its name, or a digest of the name and of the unusual way."""
+        return hashlib.sha256(json.dumps(["ksi-origin", self.name, self.ways], sort_keys=True).encode()).hexdigest() if self.ways else self.name
+
+    def machine_of(self, machine: str) -> str:
+        """The name that a machine of the plan after had in this one."""
+        return "" if machine and machine == self.alone else machine
+
+    def is_over(self, retired: Iterable[str]) -> bool:
+        """Whether the machines that retired are enough for the plan after to begin: they have a majority of the cores, or all that are
+        not lost."""
+        if self.lost:
+            return {it for it in self.content.nodes if self.content.cores_of(it)} <= {*retired, *self.lost}
+        return self.content.plan.is_majority(self.content.count_cores(retired))
+
     def text(self) -> str:
-        return json.dumps({"plan": self.content.plan.text(), "machines": self.content.machines, "before": self.before}, indent=1) + "\n"
+        return json.dumps({"plan": self.content.plan.text(), "machines": self.content.machines, "before": self.before, **self.ways}, indent=1) + "\n"
+
+    def by(self, fields: Dict[str, Any]) -> "Before":
+        """This plan with the way in the fields of a file or a message. Raises TypeError if they are malformed."""
+        return Before(self.content, self.before, tuple(sorted(str(it) for it in fields.get("lost", ()))), str(fields.get("print", "")), str(fields.get("alone", "")))
 
     @classmethod
     def parsed(cls, text: str) -> "Before":
         try:
             fields = json.loads(text)
-            return cls(Content.of(fields["plan"], fields["machines"]), str(fields["before"]))
-        except (KeyError, TypeError, ValueError):
+            return cls(Content.of(fields["plan"], fields["machines"]), str(fields["before"])).by(fields)
+        except (AttributeError, KeyError, TypeError, ValueError):
             raise NotNext("the file `succeeds` is damaged: bring it back") from None
 
     @classmethod
@@ -119,12 +151,16 @@ def content_in(folder: str) -> Content:
     return Content.of(*((it or b"").decode("ascii", "replace") for it in texts))
 
 
-def folder_of(folder: str, start: int, name: str) -> str:
-    """The folder of the plan that succeeds a folder's plan."""
+def data_folder(folder: str) -> str:
+    """The data folder of a plan's folder: that of the first plan."""
     folder = os.path.abspath(folder)
     above = os.path.dirname(folder)
-    is_successor = FOLDER.fullmatch(os.path.basename(folder)) and os.path.basename(above) == "plans"
-    return os.path.join(above if is_successor else os.path.join(folder, "plans"), f"{start}-{name[:8]}")
+    return os.path.dirname(above) if FOLDER.fullmatch(os.path.basename(folder)) and os.path.basename(above) == "plans" else folder
+
+
+def folder_of(folder: str, start: int, name: str) -> str:
+    """The folder of the plan that succeeds a folder's plan."""
+    return os.path.join(data_folder(folder), "plans", f"{start}-{name[:8]}")
 
 
 def write_folder(path: str, content: Content, before: Before) -> None:

@@ -12,7 +12,7 @@ from . import extension, files, roots
 from .elements import Malformed, parts_of
 from .fetching import Server, Unknown
 from .mirror import Mirror
-from .proved import Refused
+from .mirror_extending import LATER, extended
 
 log = logging.getLogger(__name__)
 
@@ -59,17 +59,15 @@ class Probe:
         """Extends a probe if a publication covers it."""
         path = os.path.join(self.folder, name)
         signature = files.content_of(path) or b""
-        last = self.mirror.seen.last() if self.mirror.seen else 0
         try:
-            parts = parts_of(signature)
-            if parts.second > last:
-                return
-            extension.accepted(lambda: roots.extended(self.mirror.calendar.folder, signature, last), parts, self.mirror.seen.path)
+            extended(self.mirror, signature)
             self.extended += 1
             files.remove(path)
         except roots.NotRun as reason:
             log.warning("the probe %s waits: %s", name, reason)
-        except (extension.NotExtended, roots.NotComputed, Malformed, Refused) as reason:
+        except extension.NotExtended as reason:
+            if reason.code in LATER:
+                return
             self.fail(f"the probe {name} is not extended: {reason}")
             os.replace(path, f"{path}.failed")
 

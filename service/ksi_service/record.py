@@ -14,6 +14,7 @@ It is a folder of files, cut from time to time, each but the last compressed. On
     ["forgot", NODE, FOUND, LEFT, MARK, MARK]   the node's process has ended; the file with LEFT facts replaces the one with FOUND facts
     ["retired", SECOND, DIGEST]        from here on no core is given a line about a later second: the plan of this digest follows
                                        (succession.py). Each file after it has this entry again as its second line
+    ["freed", SECOND, DIGEST]          that plan never begins (never.py): the retirement counts no more
     ["begins", STATE]                  the first line of a file: the `State` at this place
     ["ends", DIGEST]                   the last line of a file before the last: the SHA-256 of the lines before it, in hex. STATE of
                                        the next file has it too, so each digest is over all hours before
@@ -152,6 +153,8 @@ class State:
         """By machine, how many steps its record is known to have had, by the lines that came from there."""
         self.retired: Optional[Retired] = None
         """The last second of the plan for this machine's cores, if they retired."""
+        self.freed: Optional[str] = None
+        """The plan to which they had retired, if that never begins."""
         self.knows_latest = True
         """Whether `latest` counts every line of the vote from the first one on. Version 0.1.0 did not note it."""
         self.clock: Optional[dict] = None
@@ -267,6 +270,13 @@ class State:
         self.retired = Retired(second, digest)
         return []
 
+    def take_freed(self, second, digest):
+        if self.retired != (second, digest):
+            raise ValueError(digest)
+        self.retired = None
+        self.freed = digest
+        return []
+
     def take_ends(self, digest):
         self.digest = digest
         self.is_at_end = True
@@ -320,6 +330,7 @@ class State:
         self.heard = state.get("heard", {})
         self.clock = state.get("clock")
         self.digest = state.get("digest")
+        self.freed = state.get("freed")
         self.nodes = {name: node_of(*rest) for name, *rest in state["nodes"]}
         self.begin_file()
         return []
@@ -339,7 +350,7 @@ class State:
         """The entry from which `take` makes this state."""
         nodes = [[name, it.facts, list(it.unanswered), it.before, it.votes.told(), it.mark, it.mark_before, it.has_forgotten] for name, it in self.nodes.items()]
         return ["begins", {"steps": self.steps, "second": self.second, "latest": self.latest, "knows_latest": self.knows_latest, "nodes": nodes, "seen": self.seen, "sent": self.sent, "plan": self.plan,
-                           "heard": self.heard, "clock": self.clock, "digest": self.digest}]
+                           "heard": self.heard, "clock": self.clock, "digest": self.digest, **({"freed": self.freed} if self.freed else {})}]
 
 
 def told(folder) -> Iterator[object]:

@@ -43,6 +43,7 @@ class Routes:
             "/v1/signatures": Route("POST", self.signatures.sign_many),
             "/v1/extensions": Route("POST", extensions.extend_many),
             "/v1/publications": Route("GET", publications.forms, is_public=True),
+            "/v1/book": Route("GET", publications.book, is_public=True),
             "/v1/consistency": Route("GET", self.consistency.answer, is_public=True),
             "/v1/problems": Route("GET", status.problems, is_public=True),
             "/v1/openapi.json": Route("GET", status.openapi, is_public=True),

@@ -82,8 +82,11 @@ class Running:
 
     def next_plan(self, folder, following):
         """Notes that the host of a folder has ended for good. Returns the plan that follows, if this machine has a part in it."""
-        me = self.service.host.places.me
+        me = self.service.host.succession.name_after
         content = content_in(following)
+        alone = self.service.host.succession.way.alone
+        if alone and me != alone:
+            raise NoPart(f"the plan ended at second {content.plan.start - 1}, and this machine is {alone} in the next one: start the service with --machines and the files of {alone}")
         if me not in content.nodes:
             raise NoPart(f"the plan ended at second {content.plan.start - 1}, and this machine has no part in the next one: keep {folder}, and stop the service here")
         point_to(folder, following)

@@ -4,10 +4,11 @@ import logging
 import os
 import time
 
-from . import extension, files, roots
+from . import earlier, extension, files, roots
 from .admission import MOST_WAITING
 from .anchors import Anchors
 from .asking import Questions
+from .book import Book
 from .calendar_writing import CalendarWriting
 from .finding import Finding
 from .host import Host, cancelled
@@ -56,6 +57,10 @@ class Service:
         self.host.record.discard = discard
         self.publishing = Publishing(self.host, folder, publish_every)
         self.publications = self.publishing.publications
+        self.earlier = earlier.earlier_plans(folder)
+        """The plans before, as far as this machine has them."""
+        self.all_publications = earlier.AllPublications()
+        self.book = Book(self, folder, self.earlier)
         self.calendar = CalendarWriting(self.host, folder)
         self.anchors = Anchors(folder, on_publication)
         self.publishing.on_published = self.anchors.published
@@ -63,7 +68,7 @@ class Service:
         self.host.rounds.on_signed = self.indexing.note
         self.finding = self.host.finding = Finding(self.host, self.indexing)
         self.resting = Resting(self.host)
-        self.questions = Questions(self.host)
+        self.questions = Questions(self.host, self.publishing)
         self.extensions = Spans()
         self.began = time.monotonic()
         self.door = None
@@ -72,10 +77,12 @@ class Service:
         """Whether all began. One of several machines waits for others, so that a majority of the cores is there."""
 
     async def begin(self):
+        # a majority may be lost for good
+        await self.questions.begin(is_waiting=True)
         await self.host.begin(self.cut_every)
         await self.questions.begin()
         self.is_ready = True
-        self.own = [asyncio.create_task(it.run()) for it in (self.publishing, self.calendar, self.anchors, self.indexing)]
+        self.own = [asyncio.create_task(it.run()) for it in (self.publishing, self.calendar, self.anchors, self.indexing, *([self.book] if self.book.content else []))]
         if self.publications.published:
             self.anchors.published(*self.publications.published[-1])
         if self.forget_every:

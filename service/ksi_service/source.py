@@ -48,7 +48,14 @@ class Source:
         """The files below this number are there and full."""
         self.turn = 0
         """Counts looks, to fetch one full file after the other again."""
+        self.listed: List[PlanName] = []
+        """The plans that it lists."""
+        self.found: List[Published] = []
+        """The publications of all plans in its list."""
         self.published: List[Published] = []
+        """Those of the plan that the mirror follows."""
+        self.is_later = False
+        """Whether it published something of a later plan."""
         self.list = b""
         """Its publications file."""
         self.etag = ""
@@ -68,22 +75,24 @@ class Source:
 
     # fetching
 
-    def find_plan(self, wanted: Optional[PlanName]) -> Tuple[PlanName, int]:
-        """The plan that the mirror follows, or its last one, with the first second that the source lacks."""
+    def find_plan(self, wanted: Optional[PlanName], after: int = -1) -> Tuple[PlanName, int]:
+        """The plan that the mirror follows, or the first one that begins after a second, with the first second that the source lacks."""
         fetched = self.server.get("/v1/calendar", MOST_LIST, is_fresh=True)
         if fetched is None:
             raise Unknown("it serves no calendar")
         found = plans_in(fetched.content or b"")
-        chosen = [it for it in found if wanted in (None, it[0])]
+        self.listed = [it for it, _ in found]
+        chosen = [it for it in found if it[0] == wanted or wanted is None and it[0].start > after]
         if not chosen:
-            raise Unknown("it serves no calendar yet" if not found else f"it has no calendar of the plan {wanted.digest}")
-        return chosen[-1]
+            raise Unknown(f"it has no calendar of the plan {wanted.digest}" if found and wanted else "it serves no calendar yet")
+        return min(chosen, key=lambda it: it[0].start)
 
     def look(self, calendar: Calendar, is_fresh: bool = False) -> None:
         """Fetches its publications and the files that its view lacks; if fresh, all of them past caches. Raises Unknown if it cannot."""
         plan = calendar.plan
         _, after = self.find_plan(plan)
-        self.fetch_publications(plan, is_fresh)
+        self.fetch_publications(is_fresh)
+        self.choose(plan)
         end = (after - 1) // SECONDS + 1 if after > plan.start else plan.first_file()
         if is_fresh:
             self.leave_out(plan, end)
@@ -111,7 +120,13 @@ class Source:
                 files.remove(os.path.join(self.folder, name))
         self.own = {it for it in self.own if it < end}
 
-    def fetch_publications(self, plan: PlanName, is_fresh: bool) -> None:
+    def choose(self, plan: PlanName) -> None:
+        """Chooses the publications of a plan: those of the others are not of its calendar."""
+        after = min((it.start for it in self.listed if it.start > plan.start), default=plan.start + MOST_SECONDS)
+        self.published = sorted(it for it in self.found if plan.start <= it[0] < after)
+        self.is_later = any(second >= after for second, _ in self.found)
+
+    def fetch_publications(self, is_fresh: bool) -> None:
         fetched = self.server.get("/publications", MOST_PUBLICATIONS, "" if is_fresh else self.etag, is_fresh)
         if fetched is None:
             self.forget_publications()
@@ -124,8 +139,7 @@ class Source:
                 raise Malformed("a root is no imprint")
         except (Malformed, IndexError):
             raise Unknown("its publications file is malformed") from None
-        # those of other plans are not of this calendar
-        self.published = sorted(it for it in found if plan.start <= it[0] < plan.start + MOST_SECONDS)
+        self.found = found
         self.list = fetched.content
         self.etag = fetched.etag
 
@@ -205,6 +219,7 @@ class Source:
 
     def forget_publications(self) -> None:
         """Forgets the publications. They are fetched again."""
+        self.found = []
         self.published = []
         self.list = b""
         self.etag = ""

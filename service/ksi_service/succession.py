@@ -11,7 +11,8 @@ Machines report it by this message, which is no line of a node:
     ["retired", {"of": NAME, "second": E, "next": NAME, "plan": TEXT, "machines": TEXT, "ended": BOOL, "known": [MACHINE ..]}]
 
 `of` and `next` are names of plans (plans.py), `plan` and `machines` the files of the next plan, `ended` whether the machine's host of
-the plan before has ended, and `known` the machines of which the sender knows that they retired."""
+the plan before has ended, and `known` the machines of which the sender knows that they retired. It has `lost`, `print` and `alone` too
+if the next plan follows in one of these ways (`Before`)."""
 import asyncio
 import dataclasses
 import logging
@@ -22,6 +23,7 @@ from typing import Any, Dict, NamedTuple, Optional, Set
 from .errors import NeedsOperator
 from .inbox import number_in
 from .messages import last_second_to_core
+from .never import Never
 from .plans import Before, Content, Lost, content_in, folder_of, keep_retirements, name_of, retirements_in, write_folder
 from .record import Retired
 from .storing import LostFacts
@@ -41,6 +43,8 @@ OTHERS_SECONDS = 4.0
 """How long a host that has all seconds waits for other machines that lack some."""
 STUCK_SECONDS = 60.0
 """After this time without a majority after the last second, a host leaves seconds undecided."""
+BEGUN = "begun without a majority"
+"""The words for a plan that follows although a majority of the cores before was lost (lost.py)."""
 NEEDS = 2
 """The version of the protocol between machines that has succession."""
 
@@ -64,6 +68,7 @@ class Said(NamedTuple):
     name: str
     content: Content
     ended: bool
+    way: Before
 
 
 class Succession:
@@ -73,13 +78,19 @@ class Succession:
         self.host = host
         self.before: Optional[Before] = Before.read(host.folder)
         self.content = Content(host.plan, host.places.text())
-        self.name = name_of(host.plan, host.places.nodes, self.before.name if self.before else "")
+        self.origin = self.before.origin if self.before else ""
+        self.name = name_of(host.plan, host.places.nodes, self.origin)
+        self.never = Never(self)
         self.kept: Set[str] = retirements_in(host.folder) if self.before else set()
         """The machines of the plan before that retired to this plan. The folder has them."""
         self.is_begun = self.may_be_begun()
         """Whether cores may be given lines."""
         self.heard: Dict[str, Said] = {}
         """By machine of this plan, what it reported last of the plan after."""
+        self.grows_as = ""
+        """The name that the only machine of this plan has in a plan of several, if it was started with the files of that."""
+        self.way = Before(self.content, self.origin)
+        """How the plan after follows, once this machine's cores retired."""
         self.following: Optional[str] = None
         """The folder of the plan after, once this machine's cores retired."""
         self.followed: Set[str] = set()
@@ -128,8 +139,8 @@ class Succession:
         return second is not None and second <= self.retired.second
 
     def may_be_begun(self) -> bool:
-        """Whether this plan is a first one, or the folder has retirements of a majority of the cores of the plan before."""
-        return self.before is None or self.before.content.plan.is_majority(self.before.content.count_cores(self.kept))
+        """Whether this plan is a first one, or the folder has retirements of enough machines of the plan before."""
+        return self.before is None or not self.never.is_mine and self.before.is_over(self.kept)
 
     def last_of(self, machine: str) -> int:
         """The last second that the cores of a machine lead."""
@@ -143,34 +154,48 @@ class Succession:
     def retire(self, content: Content, of: Optional[Before] = None) -> Retired:
         """Lets this machine's cores retire, or raises NotRetired with the reason. Between the look at what the cores were given and the
         entry nothing else runs."""
-        retired = Retired(content.plan.start - 1, name_of(content.plan, content.nodes, self.name))
+        way = Before(self.content, self.origin, *((of.lost, of.printed, of.alone) if of else ()))
+        retired = Retired(content.plan.start - 1, name_of(content.plan, content.nodes, way.origin))
         if self.retired == retired:
             return retired
-        self.see_plan(content, of)
+        self.see_plan(content, of, retired.digest)
         self.see_cores(retired)
         folder = folder_of(self.host.folder, content.plan.start, retired.digest)
-        write_folder(folder, content, Before(self.content, self.before.name if self.before else ""))
+        write_folder(folder, content, way)
+        self.way = way
         self.following = folder
         self.followed = retirements_in(folder)
         self.host.record.add(["retired", *retired], self.report)
         log.warning("this machine's cores retire at second %d to the plan %s", retired.second, retired.digest[:16])
         return retired
 
-    def see_plan(self, content: Content, of: Optional[Before]) -> None:
+    def see_plan(self, content: Content, of: Optional[Before], name: str) -> None:
         """Raises NotRetired unless a plan may succeed this one."""
         plan, last = self.host.plan, content.plan.start - 1
         others = [it.name for it in self.host.trusted.values() if it.is_there and it.protocol < NEEDS]
         for fault, reason in (
             (self.retired is not None, f"the cores of this machine retired to another plan, {self.retired.digest[:16] if self.retired else ''}, and retire once"),
             (not self.is_begun, "this plan is not begun yet"),
+            (name in self.never.names, "this machine recorded that it never starts that plan"),
             (of is not None and of.name != self.name, "the plan that is brought is to succeed another plan than this one"),
             (not plan.start <= last <= plan.last_second, f"the next plan has to begin after one of this plan's seconds, {plan.start} to {plan.last_second}, and begins at {content.plan.start}"),
-            (bool(self.content.machines) != bool(content.machines), "a plan of one machine is succeeded by a plan of one machine, and a plan of several by one of several"),
+            (bool(self.content.machines) and not content.machines, "a plan of several machines is not succeeded by a plan of one machine without a name"),
+            (not self.content.machines and bool(content.machines) and not self.may_grow(content, of),
+             "a plan of one machine is succeeded by one of several if `ksi-service plan .. --alone NAME` wrote that, and if this service was started with --machines and the files of NAME"),
             (self.host.carrier is not None and not self.host.carrier.may_succeed, "over Redis no plan succeeds another: run the machines over HTTPS first"),
             (bool(others), f"{' '.join(others)} run an older version of the protocol, which does not know succession: upgrade first"),
         ):
             if fault:
                 raise NotRetired(reason)
+
+    def may_grow(self, content: Content, of: Optional[Before]) -> bool:
+        """Whether the only machine of this plan is one of a plan of several, and has its certificate there."""
+        return of is not None and of.alone == self.grows_as != "" and self.grows_as in content.nodes
+
+    @property
+    def name_after(self) -> str:
+        """The name of this machine in the plan after."""
+        return self.me or self.grows_as if self.way.alone else self.me
 
     def see_cores(self, retired: Retired) -> None:
         """Raises HasFacts unless every fact of this machine's cores is about a second up to the last.
@@ -186,6 +211,9 @@ class Succession:
 
     def report(self) -> None:
         """It is on the disk that the cores retired: others may know it."""
+        if self.retired is None:
+            # they are free by now
+            return
         self.is_reported = True
         self.keep_following(self.me)
 
@@ -195,10 +223,19 @@ class Succession:
         self.following = folder_of(self.host.folder, retired.second + 1, retired.digest)
         before = Before.read(self.following)
         content = content_in(self.following) if before else None
-        if content is None or before.name != self.name or name_of(content.plan, content.nodes, self.name) != retired.digest:
+        if content is None or before.name != self.name or name_of(content.plan, content.nodes, before.origin) != retired.digest:
             raise Lost(f"the cores of this machine retired to the plan {retired.digest[:16]}, and {self.following} does not have it: bring that folder back")
+        self.way = before
         self.followed = retirements_in(self.following)
         self.report()
+
+    def forget_following(self) -> None:
+        """The cores are free: the plan to which they retired never begins."""
+        self.way = Before(self.content, self.origin)
+        self.following = None
+        self.followed = set()
+        self.is_reported = False
+        self.finished = None
 
     def keep_following(self, machine: str) -> None:
         """Keeps in the folder of the plan after that a machine retired to it."""
@@ -241,23 +278,28 @@ class Succession:
         second, name = number_in(fields["second"]), str(fields["next"])
         if self.before is not None and (fields["of"], name, second) == (self.before.name, self.name, self.host.plan.start - 1):
             self.keep(machine)
-        elif fields["of"] == self.name and machine in self.host.trusted:
+        elif fields["of"] == self.name and machine in self.host.trusted and name not in self.never.names:
             if self.me in fields["known"] and self.retired is None:
                 self.host.fail(LostFacts(f"{machine} knows that the cores of this machine retired at second {second}, and the record does not have it: bring back the folder's last state"))
                 return
-            content = self.content_of(machine, fields, second, name)
-            self.heard[machine] = Said(second, name, content, bool(fields["ended"]))
+            way = Before(self.content, self.origin).by(fields)
+            content = self.content_of(machine, fields, second, name, way)
+            self.heard[machine] = Said(second, name, content, bool(fields["ended"]), way)
+            if self.me in way.lost:
+                self.host.fail(NoPart(f"{machine} reports that the plan {name[:16]} follows from second {second + 1} on, {BEGUN}, and that this machine was named as lost. It takes no part any more"))
+                return
             self.follow(machine)
 
-    def content_of(self, machine: str, fields: Dict[str, Any], second: int, name: str) -> Content:
+    def content_of(self, machine: str, fields: Dict[str, Any], second: int, name: str, way: Before) -> Content:
         said = self.heard.get(machine)
         content = said.content if said and said.name == name else Content.of(str(fields["plan"]), str(fields["machines"]))
-        if content.plan.start != second + 1 or name_of(content.plan, content.nodes, self.name) != name:
+        if content.plan.start != second + 1 or name_of(content.plan, content.nodes, way.origin) != name:
             raise ValueError("not the plan of this name")
         return content
 
     def keep(self, machine: str) -> None:
         """Keeps that a machine of the plan before retired to this plan, before anything depends on it."""
+        machine = self.before.machine_of(machine)
         if machine not in self.kept and self.before.content.cores_of(machine):
             keep_retirements(self.host.folder, self.kept | {machine})
             self.kept.add(machine)
@@ -282,7 +324,7 @@ class Succession:
     def follow_majority(self, said: Said) -> None:
         """A majority retired: this machine's cores can decide nothing after that second any more."""
         try:
-            self.retire(said.content)
+            self.retire(said.content, said.way)
         except HasFacts as reason:
             self.host.fail(NotRetired(f"a majority of the cores retired at second {said.second}, and this machine's do not: {reason}. It takes no part any more"))
         except NotRetired as reason:
@@ -299,13 +341,13 @@ class Succession:
         """The report of this machine: of this plan, or else of the plan before."""
         if self.retired is not None and self.is_reported:
             content = content_in(self.following)
-            return {"of": self.name, "second": self.retired.second, "next": self.retired.digest, "plan": content.plan.text(), "machines": content.machines, "ended": False, "known": sorted(self.followed)}
+            return {"of": self.name, "second": self.retired.second, "next": self.retired.digest, "plan": content.plan.text(), "machines": content.machines, "ended": False, "known": sorted(self.followed), **self.way.ways}
         return self.fields_of_before()
 
     def fields_of_before(self) -> Optional[Dict[str, Any]]:
-        if self.before is None or self.host.places.is_gateway or self.me not in self.kept or self.me not in self.before.content.nodes:
+        if self.before is None or self.host.places.is_gateway or self.before.machine_of(self.me) not in self.kept:
             return None
-        return {"of": self.before.name, "second": self.host.plan.start - 1, "next": self.name, "plan": self.content.plan.text(), "machines": self.content.machines, "ended": True, "known": sorted(self.kept)}
+        return {"of": self.before.name, "second": self.host.plan.start - 1, "next": self.name, "plan": self.content.plan.text(), "machines": self.content.machines, "ended": True, "known": sorted(self.kept), **self.before.ways}
 
     def answer(self, machine: str) -> None:
         """Reports to a machine of the plan before, or to one that lacks retirements, that this machine retired to this plan."""
@@ -350,15 +392,15 @@ class Succession:
     # the end of this host
 
     def is_followed(self) -> bool:
-        """Whether the folder of the plan after has retirements of a majority of this plan's cores."""
-        return self.host.plan.is_majority(self.content.count_cores(self.followed))
+        """Whether the folder of the plan after has retirements of enough machines."""
+        return self.way.is_over(self.followed) and (self.retired is None or self.retired.digest not in self.never.names)
 
     def may_end(self) -> bool:
         """Whether this host is to end: the plan after may begin, and there is nothing left to do for this one, or nothing that can be done."""
         if not self.is_followed() or self.host.now() <= self.retired.second + 1:
             return False
         if not self.has_all():
-            return self.is_stuck()
+            return bool(self.way.lost) or self.is_stuck()
         self.finished = self.finished or time.monotonic()
         return not self.others_lack() or time.monotonic() - self.finished > OTHERS_SECONDS
 
@@ -392,10 +434,12 @@ class Succession:
         found: Dict[str, Any] = {"plan_name": self.name[:16]}
         if self.before is not None:
             found["plan_before"] = self.before.name[:16]
-            found["retired_to_this"] = " ".join(sorted(it or "this" for it in self.kept)) or "none"
+            found["retired_to_this"] = " ".join(sorted(it or self.before.alone or "this" for it in self.kept)) or "none"
+            if self.before.lost:
+                found["begun"] = f"{BEGUN}: {' '.join(self.before.lost)} lost after the print of {self.before.printed}"
         retirements = {machine: f"{said.second}:{said.name[:16]}" for machine, said in sorted(self.heard.items())}
         if self.retired is not None:
             retirements[self.me or "this"] = f"{self.retired.second}:{self.retired.digest[:16]}"
         if retirements:
             found["retired"] = retirements
-        return found
+        return {**found, **self.never.counters()}

@@ -71,6 +71,9 @@ class House(houses.House):
     def publications(self):
         return self.published
 
+    def book(self):
+        return b"a zip file"
+
     def calendars(self):
         return {}
 

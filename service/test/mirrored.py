@@ -15,7 +15,7 @@ import stands
 from calendar_tree import Tree
 from ksi_service import roots
 from ksi_service.calendar_files import SECONDS, PlanName, packed
-from ksi_service.elements import element, imprint as imprint_element, number, publications_file
+from ksi_service.elements import publications_file
 from ksi_service.mirror import Mirror
 
 PLAN = PlanName("ab" * 32, 1_700_000_000 // SECONDS * SECONDS + SECONDS - 30)
@@ -24,12 +24,6 @@ PLAN = PlanName("ab" * 32, 1_700_000_000 // SECONDS * SECONDS + SECONDS - 30)
 
 def root_of(second, calendar="a"):
     return b"\x01" + hashlib.sha256(f"{calendar} {second}".encode()).digest()
-
-
-def signature_of(imprint, second):
-    """The signature of a hash that is alone in its second, with the calendar chain to its own second left out."""
-    chain = element(0x801, number(0x02, second), number(0x03, 1), imprint_element(0x05, imprint), number(0x06, 1))
-    return element(0x800, chain)
 
 
 class Server(http.server.ThreadingHTTPServer):

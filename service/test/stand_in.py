@@ -3,7 +3,8 @@ stand_in.py --forget PLAN NODE FOLDER NAME BEFORE FRESH, which forgets old secon
 
 It takes the lines of a node and answers by the blocks of one (docs/FORMATS.md, "Lines of nodes"), and keeps its facts in a file
 (stand_in_files.py). The words in KSI_STAND_IN say what else it can: `cores`, that cores forget, as those of a program of before do not, and
-`records`, that new files have the form of the proved programs' files. Its calendar is that of calendar_tree.py. Its other trees are one hash, or the one item that
+`records`, that new files have the form of the proved programs' files; and `signs`, that a request which is alone in its second gets a
+signature as stand_in_ksi.py verifies it. Its calendar is that of calendar_tree.py. Its other trees are one hash, or the one item that
 they have, and its signatures are no signatures, but for a round of one request above which a proved core stands: then the response is
 the signature. The host looks into neither."""
 import collections
@@ -14,12 +15,20 @@ import sys
 import stand_in_files
 from calendar_tree import Tree
 
+sys.path.insert(0, os.path.dirname(os.path.dirname(os.path.abspath(__file__))))
+from ksi_service.elements import element, imprint as imprint_element, number as number_element  # noqa: E402
+
 ZERO = "0" * 64
 CAN = os.environ.get("KSI_STAND_IN", "").split(",")
 
 
 def digest(words):
     return hashlib.sha256(" ".join(words).encode()).hexdigest() if words else ZERO
+
+
+def signature_of(imprint, second):
+    """The signature of a hash that is alone in its second, without the calendar chain to its own second."""
+    return element(0x800, element(0x801, number_element(0x02, second), number_element(0x03, 1), imprint_element(0x05, imprint), number_element(0x06, 1)))
 
 
 class Stand:
@@ -261,6 +270,8 @@ class Aggregator(Stand):
             return "not issued"
         if len(self.closed[second]) == 1 and len(self.answered[second]) > 64:
             return f"signature {self.answered[second]}"
+        if "signs" in CAN:
+            return f"signature {signature_of(item.split(':')[1], int(second)).hex()}"
         return f"signature {item.split(':')[1]}{int(second):016x}{self.answered[second]}"
 
 

@@ -100,6 +100,16 @@ class HttpsTest(unittest.IsolatedAsyncioTestCase):
         self.assertEqual([(to, name, len(batch)) for to, name, batch in self.came], [("B", "A", 6), ("A", "B", carrier_https.MOST_BYTES)])
         self.assertEqual((a.reachable(), b.reachable()), (["B"], ["A"]))
 
+    async def test_a_machine_that_it_comes_to_know(self):
+        """As one of a plan that is given up."""
+        alone = {it: address for it, address in self.addresses.items() if it != "C"}
+        here, there = await self.carrier("A", addresses=dict(alone)), await self.carrier("C")
+        self.assertFalse(await there.send("A", b"1\n", 5))
+        here.add("C", self.addresses["C"])
+        self.assertTrue(await here.send("C", b"2\n", 5))
+        self.assertTrue(await there.send("A", b"3\n", 5))
+        self.assertEqual(self.came, [("C", "A", b"2\n"), ("A", "C", b"3\n")])
+
     async def test_many_batches_go_over_one_connection(self):
         a, b = await self.carrier("A"), await self.carrier("B")
         self.assertEqual([await a.send("B", b"%d" % number, 20) for number in range(50)], [True] * 50)

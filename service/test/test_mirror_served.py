@@ -25,7 +25,8 @@ from ksi_service.mirror_service import MirrorHouse, extended
 from ksi_service.probe import Probe
 from ksi_service.publications import Publications
 from ksi_service.service import extended_by_files
-from mirrored import PLAN, Mirrored, Service, root_of, signature_of
+from mirrored import PLAN, Mirrored, Service, root_of
+from stand_in import signature_of
 
 
 class Signing(Service):

@@ -98,7 +98,7 @@ class Calls:
     """Bodies that are refused."""
     QUERIES = {"consistency": "?from=1&to=2"}
     """The query of an operation that needs one."""
-    OF_HOUSE = {"busy": "sign", "no-majority": "sign", "stopping": "sign", "plan-over": "sign", "not-signed": "sign", "lookup-incomplete": "lookup", "nothing-published": "extend", "too-many-extensions": "extend", "program-missing": "extend"}
+    OF_HOUSE = {"busy": "sign", "no-majority": "sign", "stopping": "sign", "plan-over": "sign", "not-signed": "sign", "lookup-incomplete": "lookup", "no-book": "book", "nothing-published": "extend", "too-many-extensions": "extend", "program-missing": "extend"}
     """The codes that a service refuses with, and its call."""
 
 

@@ -112,7 +112,7 @@ class RefusedTest(Hosted):
                 (next_plan(host.record.state.latest), None, "were asked about second"),
                 (next_plan(host.plan.start), None, "has to begin after one of this plan's seconds"),
                 (next_plan(host.plan.last_second + 2), None, "has to begin after one of this plan's seconds"),
-                (several, None, "a plan of one machine is succeeded by a plan of one"),
+                (several, None, "a plan of one machine is succeeded by one of several if"),
                 (next_plan(start), Before(next_plan(5), ""), "is to succeed another plan than this one"),
             ):
                 with self.assertRaisesRegex(NotRetired, reason):
@@ -330,4 +330,14 @@ class CheckTest(Hosted):
         shutil.rmtree(os.path.join(self.folder, "record"))
         self.assertEqual(self.entries(["given", "c0", "seal 101", None]), [])
 
-
+    def test_a_retirement_that_counts_no_more(self):
+        """Its plan was given up."""
+        free = ["given", "c0", "seal 101", None], ["retired", 105, "cd"], ["given", "c0", "seal 105", None]
+        self.assertEqual(len(self.entries(["retired", 100, "ab"], ["given", "c0", "seal 99", None], ["freed", 100, "ab"], *free)), 1)
+        for wrong in (["given", "c0", "seal 101", None], ["given", "c0", "held 100 2", None]):
+            shutil.rmtree(os.path.join(self.folder, "record"))
+            with self.assertRaisesRegex(Differs, "retired at second 100"):
+                self.entries(["retired", 100, "ab"], wrong, ["freed", 100, "ab"], *free)
+        shutil.rmtree(os.path.join(self.folder, "record"))
+        with self.assertRaisesRegex(Differs, "retired at second 105"):
+            self.entries(["retired", 100, "ab"], ["freed", 100, "ab"], ["given", "c0", "seal 106", None], ["retired", 105, "cd"])
