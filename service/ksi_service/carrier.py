@@ -112,11 +112,6 @@ class Outbox:
         self.lost = 0
         self.batches = 0
 
-    def add(self, machine: str) -> None:
-        """Messages may be sent to another machine too."""
-        self.queues.setdefault(machine, Queue())
-        self.more.set()
-
     def send(self, machine: str, message: Message) -> None:
         """Queues a message, also for a machine that seems to be away: it may only be slow."""
         queue = self.queues.get(machine)

@@ -56,9 +56,6 @@ class RedisCarrier:
             raise ServiceError(f"the server's URL cannot be used: {reason}") from None
         self.reading = asyncio.create_task(self.read(take))
 
-    def add(self, machine: str, address: str) -> None:
-        """Over Redis no plan succeeds another, so there are no further machines."""
-
     async def send(self, machine: str, batch: bytes, patience: float) -> bool:
         """Returns whether the server has the batch. Whether the machine received it shows by what it sends."""
         if len(batch) > MOST_BYTES:
