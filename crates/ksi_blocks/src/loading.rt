@@ -7,7 +7,7 @@ use ksi_imprint::Bytes;
 use ksi_ports::{Files, LoadRefusal};
 use std::alloc::Global;
 
-/// The most bytes that a log, a proof or a file of leaves may have.
+/// The most bytes that a log or a proof may have.
 pub(crate) const FILE_LIMIT: usize = 67_108_864;
 
 /// The bytes of the file of word `n`, which has at most `most` of them.
