@@ -22,7 +22,7 @@ PROGRAM = crates/ksi/out/ksi
 # prints files in words: installed if it is built
 VIEWER = crates/ksi_show/out/ksi_show
 # the programs of ksi-service, of mirrors and of archives: installed if they are built
-NODES = ksi_serve ksi_retrace ksi_roots ksi_print
+NODES = ksi_serve ksi_retrace ksi_roots ksi_print ksi_blocks
 # the programs with a manual page and completions
 NAMES = ksi ksi-show ksi-service ksi-log
 # the kit's folder, with the libraries for a static program
@@ -54,6 +54,7 @@ programs:
 	cd crates/ksi_retrace && $(RT) run -- data/plan data/record > /dev/null
 	cd crates/ksi_roots && $(RT) run -- root data 8199 > /dev/null
 	cd crates/ksi_print && $(RT) run -- text data/publications 1700003599 > /dev/null
+	cd crates/ksi_blocks && $(RT) run -- block data/log data/seed > /dev/null
 	room=$$(mktemp -d) && trap 'rm -rf "$$room"' EXIT && cd crates/ksi_serve && $(RT) run -- data/plan c0 "$$room" facts < /dev/null > /dev/null
 
 library:

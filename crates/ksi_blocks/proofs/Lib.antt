@@ -1,0 +1,4 @@
+pub mod SeedTexts
+pub mod Outcomes
+pub mod LogReports
+pub mod Savings

@@ -1,0 +1,4 @@
+pub mod Reports
+pub mod Loading
+pub mod Seeds
+pub mod Commands
