@@ -88,6 +88,8 @@ install-service:
 	install -d "$(ROOT)/lib/ksi/ksi_service" "$(ROOT)/lib/ksi/ksi_log" "$(ROOT)/lib/systemd/system" "$(ROOT)/lib/sysusers.d"
 	install -m644 service/ksi_service/*.py "$(ROOT)/lib/ksi/ksi_service"
 	install -m644 service/ksi_log/*.py "$(ROOT)/lib/ksi/ksi_log"
+	install -Dm644 lang/python/ksi/__init__.py "$(ROOT)/lib/ksi/python/ksi/__init__.py"
+	install -m644 lang/python/ksi/client.py "$(ROOT)/lib/ksi/python/ksi/client.py"
 	install -m644 VERSION "$(ROOT)/lib/ksi/VERSION"
 	install -m755 service/confirm-fork service/anchors/anchor-git service/anchors/anchor-ots "$(ROOT)/lib/ksi"
 	install -Dm644 service/deploy/ksi-alerts.yaml "$(ROOT)/share/ksi/ksi-alerts.yaml"

@@ -1,11 +1,11 @@
-"""The command `ksi-service`. Its commands are in `command_running.py`, `command_asking.py`, `command_stopped.py`,
+"""The command `ksi-service`. Its commands are in `command_running.py`, `command_files.py`, `command_asking.py`, `command_stopped.py`,
 `command_clients.py`, `machines.py` and `command_mirror.py`."""
 import argparse
 import os
 import sqlite3
 import sys
 
-from . import command_asking, command_clients, command_mirror, command_running, command_stopped, machines
+from . import command_asking, command_clients, command_files, command_mirror, command_running, command_stopped, machines
 from .command_words import positive
 from .errors import ServiceError
 from .version import PROTOCOL, version
@@ -16,12 +16,17 @@ def parser_of():
     parser.add_argument("--version", action="version", version=f"ksi-service {version()} (protocol {PROTOCOL} between machines)", help="print the version")
     commands = parser.add_subparsers(dest="command", required=True)
     command_running.add_commands(commands)
+    command_files.add_commands(commands)
     command_asking.add_commands(commands)
     command_stopped.add_commands(commands)
     command_clients.add_commands(commands)
     machines.add_commands(commands, positive)
     command_mirror.add_commands(commands)
     return parser
+
+
+def name_in(error):
+    return os.fsdecode(error.filename) if isinstance(error.filename, bytes) else error.filename
 
 
 def main(arguments):
@@ -38,7 +43,7 @@ def main(arguments):
         return error.status
     except (sqlite3.Error, OSError) as error:
         named = isinstance(error, OSError) and error.filename is not None
-        print("ksi-service: " + (f"{error.filename}: {error.strerror}" if named else str(error)), file=sys.stderr)
+        print("ksi-service: " + (f"{name_in(error)}: {error.strerror}" if named else str(error)), file=sys.stderr)
         return 1
     except KeyboardInterrupt:
         return 130

@@ -1,18 +1,15 @@
-"""The commands that ask a service: sign, extend and publications. And verify, which asks the proved `ksi`."""
-import hashlib
+"""Asks a service, by its folder or by a door. And the command publications."""
 import http.client
 import os
 import ssl
-import time
 import urllib.error
 import urllib.request
 from typing import NamedTuple
 
 from . import client, extension, files, printing
 from .command_words import DEFAULT, WORDS, Failed, add, at_rest, rests
-from .elements import Malformed, parts_of, published_in
+from .elements import Malformed, published_in
 from .newest import line_of
-from .proved import Refused, ksi
 from .publications import Publications
 
 
@@ -40,13 +37,17 @@ def door(folder):
     return DoorOf(address, int(number), *scheme or ["http"])
 
 
-def opener():
-    """Opens URLs of this machine: by no proxy, whatever the environment names. The folder says where the door is, so its certificate shows
-    nothing more."""
+def local_context():
+    """The TLS of a door of this machine. The folder says where the door is, so its certificate shows nothing more."""
     context = ssl.create_default_context()
     context.check_hostname = False
     context.verify_mode = ssl.CERT_NONE
-    return urllib.request.build_opener(urllib.request.ProxyHandler({}), urllib.request.HTTPSHandler(context=context))
+    return context
+
+
+def opener():
+    """Opens URLs of this machine: by no proxy, whatever the environment names."""
+    return urllib.request.build_opener(urllib.request.ProxyHandler({}), urllib.request.HTTPSHandler(context=local_context()))
 
 
 def ask(folder, path, content=None, kind="text/plain"):
@@ -67,25 +68,6 @@ def ask(folder, path, content=None, kind="text/plain"):
         raise Failed(f"no service runs over {folder}, and the last one was not stopped: ksi-service start {folder}") from None
 
 
-def digest_of(path):
-    """The SHA-256 of a file, in hex."""
-    digest = hashlib.sha256()
-    with open(path, "rb") as file:
-        while piece := file.read(1 << 20):
-            digest.update(piece)
-    return digest.hexdigest()
-
-
-def sign(words):
-    """Signs a file by its hash: the file does not leave its owner. An older signature shows more than a new one, so none is replaced."""
-    name = words.out or words.file + ".ksig"
-    if os.path.lexists(name):
-        raise Failed(f"{name} is there already, and is not replaced: -o NAME saves another signature")
-    content = signature_by(words, digest_of(words.file))
-    files.write(name, content)
-    print(f"signed {name}{time_of(content)}")
-
-
 def signature_by(words, imprint):
     """The signature of a hash by the first door that gives one, or by the service over the folder."""
     if words.door:
@@ -93,25 +75,11 @@ def signature_by(words, imprint):
     return ask(words.folder, "/sign", imprint.encode())
 
 
-def time_of(signature):
-    """The second of a signature, with its date."""
-    try:
-        second = parts_of(signature).second
-        return f": second {second}, {time.strftime('%Y-%m-%d %H:%M:%S', time.gmtime(second))} UTC"
-    except (Malformed, ValueError, OverflowError):
-        return ""
-
-
-def extend(words):
-    """By the service, or if it does not run, by a core's file: a folder whose plan is over still extends."""
-    with open(words.signature, "rb") as file:
-        signature = file.read()
-    if rests(words.folder):
-        content = extended_by_file(words.folder, signature)
-    else:
-        content = ask(words.folder, "/extend", signature, "application/octet-stream")
-    files.write(words.out or words.signature, content)
-    print(f"extended {words.out or words.signature}")
+def extension_by(folder, signature):
+    """An extended signature, by the service, or if it does not run by a core's file: a folder whose plan is over still extends."""
+    if rests(folder):
+        return extended_by_file(folder, signature)
+    return ask(folder, "/extend", signature, "application/octet-stream")
 
 
 def extended_by_file(folder, signature):
@@ -162,21 +130,6 @@ def see_kept(words, kept, content):
         raise Failed(f"{words.out} has publications that {words.folder} does not have, and {hint}")
 
 
-def verify(words):
-    """By the proved `ksi verify`: its own line and status."""
-    if not os.path.exists(words.publications):
-        raise Failed(f"{words.publications}: no such file; `ksi-service publications` saves it")
-    if not os.path.exists(words.signature):
-        raise Failed(f"{words.signature}: no such file; `ksi-service sign {words.file}` makes one")
-    try:
-        print(ksi("verify", words.signature, digest_of(words.file), words.publications))
-    except Refused as refused:
-        hint = ""
-        if refused.line.startswith("refused V13 "):
-            hint = f" (the signature is not extended to a publication of that file: ksi-service extend {words.signature}, and ksi-service publications)"
-        raise Failed(f"{refused}{hint}") from None
-
-
 def add_asking(commands, name, does, told, *words, out=None):
     """Adds a command that asks a service, and saves the answer."""
     one = add(commands, name, does, told, *words)
@@ -186,11 +139,6 @@ def add_asking(commands, name, does, told, *words, out=None):
 
 
 def add_commands(commands):
-    one = add_asking(commands, "sign", sign, "sign a file: FILE.ksig", "file")
-    one.add_argument("--door", metavar="HOST:PORT,..", help="the doors of a service's machines, each HOST:PORT or https://HOST:PORT: if one is away or busy, the next one is asked")
-    add_asking(commands, "extend", extend, "extend a signature to the last publication", "signature")
     one = add_asking(commands, "publications", publications, "save the publications file", out="publications")
     one.add_argument("--print", action="store_true", help="print the last publication as text for a newspaper")
     one.add_argument("--qr", metavar="FILE.svg", help="with --print: save this text as a QR code")
-    one = add(commands, "verify", verify, "verify a file and its signature by the proved ksi", "file", "signature")
-    one.add_argument("publications", nargs="?", default="publications", help="the publications file (default: publications)")
