@@ -172,7 +172,7 @@ def report_one(words: Any, look: Look, publications: bytes, told: List[str]) -> 
     print(f"accepted {outcome.second}", recorded(outcome.second or 0), sep="\n")
     if outcome.publication is not None:
         print(existed((outcome.publication, outcome.root)))
-    print(*(note.rpartition(": ")[2] for note in notes), *told, sep="\n")
+    print(*(note.split(": ", 1)[1] for note in notes), *told, sep="\n")
     if outcome.remark:
         print(outcome.remark)
 
