@@ -1,11 +1,11 @@
-"""The command `ksi-service`. Its commands are in `command_running.py`, `command_files.py`, `command_asking.py`, `command_stopped.py`,
-`command_clients.py`, `machines.py` and `command_mirror.py`."""
+"""The command `ksi-service`. Its commands are in `command_running.py`, `command_files.py`, `command_seals.py`, `command_asking.py`,
+`command_stopped.py`, `command_clients.py`, `machines.py` and `command_mirror.py`."""
 import argparse
 import os
 import sqlite3
 import sys
 
-from . import command_asking, command_clients, command_files, command_mirror, command_running, command_stopped, machines
+from . import command_asking, command_clients, command_files, command_mirror, command_running, command_seals, command_stopped, machines
 from .command_words import positive
 from .errors import ServiceError
 from .version import PROTOCOL, version
@@ -17,6 +17,7 @@ def parser_of():
     commands = parser.add_subparsers(dest="command", required=True)
     command_running.add_commands(commands)
     command_files.add_commands(commands)
+    command_seals.add_commands(commands)
     command_asking.add_commands(commands)
     command_stopped.add_commands(commands)
     command_clients.add_commands(commands)

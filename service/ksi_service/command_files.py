@@ -1,7 +1,7 @@
 """The commands over files: sign, extend and verify. Several files and trees are the work of command_trees.py."""
 import os
 
-from . import command_asking, command_trees, files, hashing, looks
+from . import command_asking, command_seals, command_trees, files, hashing, looks
 from .command_words import DEFAULT, WORDS, Failed, natural, positive
 from .elements import Malformed, head_of
 from .looks import OTHER, OURS, Look, Target
@@ -92,7 +92,9 @@ def signature_of(path):
 
 
 def verify(words):
-    """Verifies a file and its signature, which is next to it if no other one is named. Or several files."""
+    """Verifies a file and its signature, which is next to it if no other one is named. Or several files, or by a seal."""
+    if words.proof or words.seal:
+        return command_seals.verify_proof(words) if words.proof else command_seals.verify_seal(words)
     if not is_single(words):
         return command_trees.verify(words)
     if len(words.path) > 3 or len(words.path) == 3 and words.publications:
@@ -140,3 +142,5 @@ def add_commands(commands):
     one.add_argument("--publications", metavar="FILE", help="the publications file")
     one.add_argument("--print", metavar="'TEXT'", help="verify by this print alone, without a publications file: the text as a newspaper prints it, the line `second .., root ..`, or a file with one of them")
     one.add_argument("--mirror", metavar="LIST|URL", help="compare the publication with the list of a mirror: a publications file or the URL of a mirror")
+    one.add_argument("--seal", metavar="FOLDER", help="verify a tree against its seal, which `seal` made")
+    one.add_argument("--proof", metavar="FOLDER", help="verify a file by its proof, which `prove` made")

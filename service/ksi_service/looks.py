@@ -114,6 +114,11 @@ def to_sign(_: Any, on_bytes: Callable[[int], None]) -> Looker:
     return look
 
 
+def to_hash(_: Any, on_bytes: Callable[[int], None]) -> Looker:
+    """A file alone."""
+    return lambda job: hashed(*job, on_bytes)
+
+
 def to_verify(publications: bytes, on_bytes: Callable[[int], None]) -> Looker:
     by = verifier(publications)
 

@@ -156,7 +156,7 @@ def extend(work: Work, doors: Callable[[int], Doors], publications: bytes, to: O
             if bad is not None:
                 work.tally.add(bad._replace(verdict=outcomes.NOT_EXTENDED))
             elif look.state == NONE:
-                work.tally.add(of_look(look, outcomes.NO_SIGNATURE))
+                work.tally.add(of_look(look, outcomes.PASSED, "without a signature"))
             elif look.verdict.is_extended and look.verdict.calendar_to in seconds:
                 work.tally.add(of_look(look, outcomes.ALREADY_EXTENDED, f"to the publication of {dated(look.verdict.calendar_to)}"))
             else:

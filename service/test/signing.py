@@ -44,13 +44,13 @@ def joined(left, right, level):
     return b"\x01" + hashlib.sha256(left + right + bytes([level])).digest()
 
 
-def tree_of(items):
-    """The root and its level of a list of imprints, and for each the links up to it: whether it is the left part, the other part, and the
-    correction of the level."""
+def tree_of(items, level=0):
+    """The root and its level of a list of imprints of a level, and for each the links up to it: whether it is the left part, the other part,
+    and the correction of the level."""
     if len(items) == 1:
-        return items[0], 0, [[]]
+        return items[0], level, [[]]
     half = 1 << (len(items) - 1).bit_length() - 1
-    (left, low, left_links), (right, high, right_links) = tree_of(items[:half]), tree_of(items[half:])
+    (left, low, left_links), (right, high, right_links) = tree_of(items[:half], level), tree_of(items[half:], level)
     level = max(low, high) + 1
     links = [[*it, (True, right, level - low - 1)] for it in left_links] + [[*it, (False, left, level - high - 1)] for it in right_links]
     return joined(left, right, level), level, links
