@@ -6,7 +6,7 @@ import urllib.error
 import urllib.request
 from typing import NamedTuple
 
-from . import client, extension, files, printing
+from . import client, extension, files, libksi, printing
 from .command_words import DEFAULT, WORDS, Failed, add, at_rest, rests
 from .elements import Malformed, published_in
 from .newest import line_of
@@ -96,7 +96,7 @@ def extended_by_file(folder, signature):
 def publications(words):
     if words.qr and not words.print:
         raise Failed("--qr needs --print")
-    content = Publications(words.folder).content if rests(words.folder) else ask(words.folder, "/publications")
+    content = publications_of(words)
     if content is None:
         raise Failed(f"nothing was published yet over {words.folder}")
     kept = files.content_of(words.out)
@@ -108,6 +108,20 @@ def publications(words):
     print(f"to be printed: {line_of(last, root)}")
     if words.print:
         print_last(words, last)
+
+
+def publications_of(words):
+    """The publications file of the first door that has one, or of the service over the folder."""
+    if not words.door:
+        return Publications(words.folder).content if rests(words.folder) else ask(words.folder, "/publications")
+    reason = ""
+    for address in client.doors_of(words.door):
+        url = address if address.startswith(client.HTTPS) else f"http://{address}"
+        try:
+            return libksi.client().Client(url, os.environ.get("KSI_KEY"), patience=5.0).publications()
+        except libksi.client().Refused as refused:
+            reason = f"{address}: {refused}"
+    raise Failed(reason)
 
 
 def print_last(words, second):
@@ -142,3 +156,4 @@ def add_commands(commands):
     one = add_asking(commands, "publications", publications, "save the publications file", out="publications")
     one.add_argument("--print", action="store_true", help="print the last publication as text for a newspaper")
     one.add_argument("--qr", metavar="FILE.svg", help="with --print: save this text as a QR code")
+    one.add_argument("--door", metavar="HOST:PORT,..", help="the doors of a service's machines, in place of --folder")

@@ -5,6 +5,7 @@ import atexit
 import hashlib
 import os
 import shutil
+import socket
 import subprocess
 import sys
 import tempfile
@@ -38,6 +39,17 @@ ENVIRONMENT = environment()
 os.environ.update(ENVIRONMENT)
 sys.path.append(ENVIRONMENT["PYTHONPATH"])
 libksi.library.cache_clear()
+
+
+def free_ports(count):
+    """Ports of the loopback on which nothing listens."""
+    sockets = [socket.socket() for _ in range(count)]
+    for it in sockets:
+        it.bind(("127.0.0.1", 0))
+    found = [it.getsockname()[1] for it in sockets]
+    for it in sockets:
+        it.close()
+    return found
 
 
 def joined(left, right, level):

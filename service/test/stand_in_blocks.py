@@ -1,4 +1,4 @@
-"""stand_in_blocks.py COMMAND WORD ..: `ksi_blocks` (block, line, locate) and `ksi checkline`, for tests where they are not built: by hashlib
+"""stand_in_blocks.py COMMAND WORD ..: `ksi_blocks` (block, line), `ksi checkline` and `ksi verify`, for tests where they are not built: by hashlib
 and examples/verify.py (docs/FORMATS.md, "Masked blocks of lines")."""
 import hashlib
 import os
@@ -64,13 +64,21 @@ def checkline(signature, publications, line_file, proof):
         parts = {part.kind: part.body for part in read(it.body)}
         level += int.from_bytes(parts.get(0x01, b""), "big") + 1
         node = hashed(*((node, parts[0x02]) if it.kind == 0x07 else (parts[0x02], node)), bytes([level]))
+    return verdict(signature, node[1:], publications, "line ")
+
+
+def verdict(signature, digest, publications, begun=""):
     try:
-        return f"line accepted {verify.verify(content_of(signature), node[1:], content_of(publications))}"
+        return f"{begun}accepted {verify.verify(content_of(signature), digest, content_of(publications))}"
     except verify.Failed as failed:
         return f"refused {failed}"
 
 
+def verified(signature, digest, publications):
+    return verdict(signature, bytes.fromhex(digest), publications)
+
+
 if __name__ == "__main__":
-    said = {"block": block, "line": line, "checkline": checkline}[sys.argv[1]](*sys.argv[2:])
+    said = {"block": block, "line": line, "checkline": checkline, "verify": verified}[sys.argv[1]](*sys.argv[2:])
     print(said)
     sys.exit(said.startswith("refused"))

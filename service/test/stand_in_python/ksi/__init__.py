@@ -8,6 +8,8 @@ sys.path[:0] = [os.path.join(TOP, "examples"), os.path.join(TOP, "service")]
 import verify as by_hand  # noqa: E402
 from ksi_service.elements import Malformed, head_of, published_in  # noqa: E402
 sys.path.remove(os.path.join(TOP, "examples"))
+# the client is the real one
+__path__.append(os.path.join(TOP, "lang", "python", "ksi"))
 
 
 class Publication(typing.NamedTuple):
