@@ -48,9 +48,11 @@ def opened(path: Path) -> Iterator[int]:
 def hashed(path: Path, on_bytes: Callable[[int], None] = lambda count: None) -> Hashed:
     """The size and the SHA-256 of a regular file. `on_bytes` is called with the size of each piece that was read. Raises NotHashed if the
     file is changed meanwhile."""
-    digest, buffer, size = hashlib.sha256(), memoryview(bytearray(PIECE)), 0
+    digest, size = hashlib.sha256(), 0
     with opened(path) as number:
         before = os.fstat(number)
+        # a small file needs no large buffer
+        buffer = memoryview(bytearray(min(PIECE, before.st_size + 1)))
         while count := os.readv(number, [buffer]):
             digest.update(buffer[:count])
             size += count
