@@ -32,6 +32,9 @@ def name_in(error):
 
 def main(arguments):
     words = parser_of().parse_args(arguments)
+    if hasattr(sys.stdout, "reconfigure"):
+        # a file name may be any bytes
+        sys.stdout.reconfigure(errors="surrogateescape")
     try:
         words.does(words)
         sys.stdout.flush()

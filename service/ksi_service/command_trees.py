@@ -8,11 +8,12 @@ from typing import Any, Callable, List, Optional
 from . import client, command_asking, files, libksi, links, outcomes, outside, reports, tree_work
 from .batches import Doors
 from .command_asking import door, local_context
-from .command_words import Failed
+from .command_words import Failed, at_rest, rests
 from .elements import published_in, publications_file
 from .looks import Look
 from .outcomes import ACCEPTED, Outcome, Tally, of_verified
 from .progress import Progress
+from .resting_door import Resting
 from .trees import trees_of
 from .tree_work import Work
 from .verdicts import existed, recorded
@@ -90,8 +91,17 @@ def sign(words: Any) -> None:
 
 
 def extend(words: Any) -> None:
-    """Extends the signatures of files that are not extended yet."""
-    doors = doors_of(words)
+    """Extends the signatures of files that are not extended yet: by a service, or if it does not run by a core's file."""
+    if words.door or not rests(words.folder):
+        extend_by(words, doors_of(words))
+        return
+    if words.to is not None:
+        raise Failed("--to needs a service that runs")
+    with at_rest(words.folder), Resting(words.folder) as resting:
+        extend_by(words, lambda number: resting)
+
+
+def extend_by(words: Any, doors: Callable[[int], Any]) -> None:
     run = Run(words, "extend")
     run.go(lambda: tree_work.extend(run.work, doors, publications_by(doors), words.to))
 
@@ -150,7 +160,7 @@ def next_publication(folder: str) -> Optional[int]:
     """The time of the next publication, if a service runs over the folder."""
     try:
         return json.loads(command_asking.ask(folder, "/status"))["next_publication"] + 1 if files.is_held(folder) else None
-    except (Failed, KeyError, ValueError):
+    except (Failed, KeyError, ValueError, OSError):
         return None
 
 

@@ -43,7 +43,7 @@ def signature_at(path: bytes) -> Tuple[Optional[bytes], str]:
     try:
         return hashing.content_of(path, MOST_SIGNATURE), ""
     except FileNotFoundError:
-        return None, ""
+        return None, "it is a symbolic link to a file that is not there" if os.path.islink(path) else ""
     except (OSError, NotHashed) as error:
         return None, reason_of(error)
 

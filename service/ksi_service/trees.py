@@ -114,7 +114,7 @@ def trees_of(paths: Sequence[bytes], into: Optional[bytes], recursive: bool) -> 
     among them and `recursive` is not set, and OSError if there is no such file."""
     found: List[Tree] = []
     names: Set[bytes] = set()
-    for path in paths:
+    for path in outer(paths):
         if path.endswith(SIGNATURE) and os.path.isfile(path):
             # as the shell gives all names of a folder
             path = path[:-len(SIGNATURE)]
@@ -132,6 +132,12 @@ def trees_of(paths: Sequence[bytes], into: Optional[bytes], recursive: bool) -> 
         below = None if into is None else os.path.join(into, name) if is_folder and len(paths) > 1 else into
         found.append(Tree(path, below, is_folder))
     return found
+
+
+def outer(paths: Sequence[bytes]) -> List[bytes]:
+    """The paths that are not below another one of them: no file is worked on twice."""
+    real = [os.path.realpath(it) for it in paths]
+    return [path for at, path in enumerate(paths) if real[at] not in real[:at] and not any(real[at].startswith(it.rstrip(b"/") + b"/") for it in real)]
 
 
 def entries_of(trees: Sequence[Tree]) -> Iterator[Entry]:

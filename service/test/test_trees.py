@@ -15,7 +15,7 @@ from unittest import mock
 
 import signing
 import stands
-from ksi_service import batches, command, elements, tree_work, trees
+from ksi_service import batches, command, elements, resting_door, tree_work, trees
 
 COUNT = 2000 if os.path.exists(signing.ARCHIVE) else 300
 """How many files a tree has: the stand-in for libksi is slow."""
@@ -199,16 +199,40 @@ class TreeTest(signing.Signed):
         os.chdir(self.room)
         try:
             with contextlib.redirect_stdout(told), contextlib.redirect_stderr(told):
-                self.assertEqual(command.main([*words, "--folder", self.at("none"), "--jobs", "2"]), status, told.getvalue()[:5000])
+                self.assertEqual(command.main([*words[:1], "--folder", self.at("none"), *words[1:], "--jobs", "2"]), status, told.getvalue()[:5000])
         finally:
             os.chdir(before)
         return told.getvalue()
 
+    def test_paths_that_name_a_file_twice(self):
+        self.file("a/1"), self.file("a/2", b"two")
+        with open(os.path.join(self.tree, "a", "3.ksig"), "wb"):
+            os.symlink("nowhere", os.path.join(self.tree, "a", "1.ksig"))
+        said = self.in_process("sign", "-r", self.tree, f"{self.tree}/a", f"{self.tree}/a/2", f"{self.tree}/a/../a", "--door", self.url, status=1)
+        self.assertIn("1: not read: its signature: it is a symbolic link to a file that is not there", said)
+        self.assertIn("1 not read, 1 signed", said)
+        self.assertIn("already signed", self.in_process("sign", f"{self.tree}/a/2.ksig", f"{self.tree}/a/2", "--door", self.url))
+
+    def test_a_stopped_service_extends_a_tree(self):
+        """By a core's file: here a core that answers from the calendar."""
+        self.file("1"), self.file("2", b"two")
+        self.sign()
+        content, data = self.house.publish(), self.at("data")
+        os.mkdir(data)
+        for name, held in (("plan", b"ksi-schedule 1\ncores 1\nstart 5\naggregator 0 parent c0\n"), ("publications", content), ("c0.facts", b"")):
+            with open(os.path.join(data, name), "wb") as file:
+                file.write(held)
+        with mock.patch.object(resting_door, "Stopped", lambda *_: Core(self.house)):
+            self.assertIn("2 extended", self.in_process("extend", "-r", self.tree, "--folder", data))
+            self.assertIn("2 already extended", self.in_process("extend", "-r", self.tree, "--folder", data))
+            self.assertIn("--to needs a service that runs", self.in_process("extend", "-r", self.tree, "--folder", data, "--to", "7", status=1))
+
     def test_words_that_do_not_fit(self):
         self.file("1")
+        os.makedirs(self.at("other", "tree"))
         for words, reason in ((["sign", self.tree, "--door", self.url, "--report", "x.csv"], "is a folder: -r takes all files in it"), (["sign", "-r", self.tree, "-o", "x"], "-o names the result for one file"),
                               (["sign", "-r", self.tree], "no service runs over"), (["sign", "-r", self.tree, "--door", self.url, "--report", "x.doc"], "does not end with .csv, .json or .txt"),
-                              (["sign", "-r", self.tree, self.tree, "--into", "x", "--door", self.url], "two of the paths have the name tree"), (["sign", "-r", "absent", "--door", self.url], "absent: No such file"),
+                              (["sign", "-r", self.tree, "other/tree", "--into", "x", "--door", self.url], "two of the paths have the name tree"), (["sign", "-r", "absent", "--door", self.url], "absent: No such file"),
                               (["verify", "-r", self.tree], "there is no file `publications` here"), (["verify", "a", "b", "c", "d"], "-r verifies several files")):
             with self.subTest(words=words):
                 self.assertIn(reason, self.in_process(*words, status=1))
@@ -218,6 +242,29 @@ class TreeTest(signing.Signed):
         with tree_work.held(trees.trees_of([os.fsencode(self.tree)], None, True)):
             self.assertIn("another ksi-service works on", self.in_process("sign", "-r", self.tree, "--door", self.url, status=1))
         self.assertIn("1 signed", self.in_process("sign", "-r", self.tree, "--door", self.url))
+
+
+class Core:
+    """A core of a stopped service, as `proved.Stopped` is one."""
+
+    name = "c0"
+
+    def __init__(self, house):
+        self.house = house
+
+    def __enter__(self):
+        return self
+
+    def __exit__(self, *_):
+        pass
+
+    def ask(self, line):
+        word, *numbers = line.split(" ")
+        second, last = map(int, numbers)
+        if word == "held":
+            return [f"root {second} {self.house.roots[second - signing.START][1:].hex()}"]
+        tree = self.house.tree_to(last)
+        return [f"published {tree.root(last)[1:].hex()}", *(f"{side} {other[1:].hex()}" for side, other in tree.chain(second, last))]
 
 
 def is_there(group):

@@ -157,6 +157,10 @@ class VerdictTest(signing.Signed):
         self.assertIn("pipe: it is a FIFO", self.command("sign", "pipe", "--door", self.url, status=1))
         self.assertIn("Is a directory", self.command("sign", "tree/", "--door", self.url, status=1))
 
+    def test_names_of_any_bytes(self):
+        path = os.fsdecode(self.file(b"latin \xe9 line\nfeed", b"I owe you one."))
+        self.assertIn("latin \\xe9 line\nfeed.ksig: second 1700000001", self.run_command("sign", path, "--door", self.url))
+
     def test_signatures_that_are_missing_or_none(self):
         self.publish()
         os.rename(f"{self.deed}.ksig", self.at("kept"))
