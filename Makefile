@@ -123,9 +123,10 @@ install: install-service
 	    install -Dm644 "$(OUT)/_$$it" "$(ROOT)/share/zsh/site-functions/_$$it" && \
 	    install -Dm644 "$(OUT)/$$it.fish" "$(ROOT)/share/fish/vendor_completions.d/$$it.fish" || exit; \
 	done
-	install -d "$(DOC)/docs" "$(DOC)/bench"
+	install -d "$(DOC)/docs/howto" "$(DOC)/bench"
 	install -m644 README.md NOTICE CHANGELOG.md CONTRIBUTING.md SECURITY.md "$(DOC)"
 	install -m644 docs/*.md docs/way.svg docs/page.png "$(DOC)/docs"
+	install -m644 docs/howto/*.md "$(DOC)/docs/howto"
 	install -m644 bench/README.md "$(DOC)/bench"
 	install -Dm644 page/page.html "$(ROOT)/share/ksi/page.html"
 	ln -sf ../../share/ksi/page.html "$(ROOT)/lib/ksi/page.html"

@@ -42,12 +42,12 @@ for (const [width, height] of sizes)
     await ask('Emulation.setDeviceMetricsOverride', { width, height, deviceScaleFactor: 1, mobile: width < 600 });
     await ask('Emulation.setEmulatedMedia', { features: [{ name: 'prefers-color-scheme', value: scheme }] });
     await show();
-    await value("document.querySelector('details').open = true");
+    await value("document.querySelectorAll('details').forEach((it) => { it.open = true; })");
     same(`${width} wide, ${scheme}`, await value(LOOK), { pale: [], cut: [], sideways: false });
     if (pictures) {
       fs.mkdirSync(pictures, { recursive: true });
       for (const shut of [false, true]) {
-        await value(`document.querySelector('details').open = ${!shut}`);
+        await value(`document.querySelector('#way details').open = ${!shut}`);
         const { data } = await ask('Page.captureScreenshot', { captureBeyondViewport: !shut, ...(shut ? {} : { clip: { x: 0, y: 0, width, height: Math.min(4000, await value('document.documentElement.scrollHeight')), scale: 1 } }) });
         fs.writeFileSync(path.join(pictures, `${width}-${scheme}${shut ? '' : '-all'}.png`), Buffer.from(data, 'base64'));
       }
@@ -58,13 +58,13 @@ for (const [width, height] of sizes)
 const press = async (key, code, text) => { for (const type of ['keyDown', 'keyUp']) await ask('Input.dispatchKeyEvent', { type, key, code: key, windowsVirtualKeyCode: code, nativeVirtualKeyCode: code, ...(text && type === 'keyDown' ? { text } : {}) }); };
 await show();
 const order = [];
-for (let k = 0; k < 6; k++) {
+for (let k = 0; k < 8; k++) {
   await press('Tab', 9);
-  order.push(await value("(document.activeElement.id || document.activeElement.tagName.toLowerCase())"));
+  order.push(await value("(document.activeElement.id || [document.activeElement.tagName.toLowerCase(), document.activeElement.parentElement.id].filter(Boolean).join(' of '))"));
   if (order[k] === 'summary') await press('Enter', 13, '\r');
 }
-same('tab order', order, ['document', 'signature', 'publications', 'mirror', 'summary', 'table']);
-same('Enter opens the table', await value("document.querySelector('details').open"), true);
+same('tab order', order, ['document', 'signature', 'publications', 'mirror', 'summary of by-print', 'summary', 'table', 'paper']);
+same('Enter opens the table', await value("document.querySelector('#way details').open"), true);
 await ask('Page.setInterceptFileChooserDialog', { enabled: true });
 await value("document.querySelector('#document').focus()");
 await press('Enter', 13, '\r');

@@ -84,14 +84,14 @@ def accepted(folder: str, name: str, imprint: str, publications: str) -> int:
     return int(words[1])
 
 
-def verified(parts: Dict[str, bytes], imprint: str, publications: str) -> Shown:
-    """Verifies a bundle by the proved `ksi verify`: the signature against the book, and the book's signature against a publications
-    file. If that file has another print alone, that of the old plan, then the signature against it. Raises NotVerified."""
+def verified(parts: Dict[str, bytes], imprint: str, content: bytes) -> Shown:
+    """Verifies a bundle by the proved `ksi verify`: the signature against the book, and the book's signature against the content of a
+    publications file. If that file has another print alone, that of the old plan, then the signature against it. Raises NotVerified."""
     with tempfile.TemporaryDirectory(prefix="ksi-bundle-") as room:
-        for name, content in parts.items():
+        for name, part in {**parts, "publications": content}.items():
             with open(os.path.join(room, name), "wb") as file:
-                file.write(content)
-        publications = os.path.abspath(publications)
+                file.write(part)
+        publications = os.path.join(room, "publications")
         try:
             accepted(room, BOOK_SIGNATURE, hashlib.sha256(parts[BOOK]).hexdigest(), publications)
             name, against = BOOK_SIGNATURE, os.path.join(room, BOOK)
@@ -104,7 +104,7 @@ def verified(parts: Dict[str, bytes], imprint: str, publications: str) -> Shown:
         except Refused as refused:
             hint = ""
             if name == SIGNATURE and refused.line.startswith("refused V13 "):
-                hint = f" ({publications} has neither the publication that leads to the book, of second {publication_of(parts[BOOK_SIGNATURE])}, nor that of the plan itself)"
+                hint = f" (the publications file has neither the publication that leads to the book, of second {publication_of(parts[BOOK_SIGNATURE])}, nor that of the plan itself)"
             raise NotVerified(f"{refused}{hint}") from None
         return Shown(second, publication_in(publications, publication_of(parts[name])), notes_in(parts[BOOK]).get(publication_of(parts[SIGNATURE]) or -1, ""))
 

@@ -1,11 +1,12 @@
-"""The command `ksi-service`. Its commands are in `command_running.py`, `command_succeed.py`, `command_asking.py`,
-`command_stopped.py`, `command_clients.py`, `machines.py`, `command_gateways.py` and `command_mirror.py`."""
+"""The command `ksi-service`. Its commands are in `command_running.py`, `command_succeed.py`, `command_files.py`, `command_seals.py`,
+`command_asking.py`, `command_stopped.py`, `command_clients.py`, `machines.py`, `command_gateways.py` and `command_mirror.py`."""
 import argparse
 import os
 import sqlite3
 import sys
 
-from . import command_asking, command_clients, command_gateways, command_mirror, command_running, command_stopped, command_succeed, machines
+from . import (command_asking, command_clients, command_files, command_gateways, command_mirror, command_running, command_seals, command_stopped,
+               command_succeed, machines)
 from .command_words import positive
 from .errors import ServiceError
 from .version import PROTOCOL, version
@@ -17,6 +18,8 @@ def parser_of():
     commands = parser.add_subparsers(dest="command", required=True)
     command_running.add_commands(commands)
     command_succeed.add_commands(commands)
+    command_files.add_commands(commands)
+    command_seals.add_commands(commands)
     command_asking.add_commands(commands)
     command_stopped.add_commands(commands)
     command_clients.add_commands(commands)
@@ -26,8 +29,15 @@ def parser_of():
     return parser
 
 
+def name_in(error):
+    return os.fsdecode(error.filename) if isinstance(error.filename, bytes) else error.filename
+
+
 def main(arguments):
     words = parser_of().parse_args(arguments)
+    if hasattr(sys.stdout, "reconfigure"):
+        # a file name may be any bytes
+        sys.stdout.reconfigure(errors="surrogateescape")
     try:
         words.does(words)
         sys.stdout.flush()
@@ -40,7 +50,7 @@ def main(arguments):
         return error.status
     except (sqlite3.Error, OSError) as error:
         named = isinstance(error, OSError) and error.filename is not None
-        print("ksi-service: " + (f"{error.filename}: {error.strerror}" if named else str(error)), file=sys.stderr)
+        print("ksi-service: " + (f"{name_in(error)}: {error.strerror}" if named else str(error)), file=sys.stderr)
         return 1
     except KeyboardInterrupt:
         return 130

@@ -1,5 +1,4 @@
-"""The commands that ask a service: sign, extend and publications. And verify, which asks the proved `ksi`."""
-import hashlib
+"""Asks a service, by its folder or by a door. And the command publications."""
 import http.client
 import os
 import ssl
@@ -7,16 +6,14 @@ import urllib.error
 import urllib.request
 from typing import NamedTuple
 
-from . import bundles, client, command_bundles, extension, files, printing
+from . import client, extension, files, libksi, printing
 from .book import book_in
 from .command_words import DEFAULT, WORDS, Failed, add, at_rest, rests
 from .earlier import AllPublications, earlier_plans, plan_of
-from .elements import Malformed, parts_of, published_in
-from .evidence import date
+from .elements import Malformed, published_in
 from .newest import line_of
 from .plan import Plan
 from .plans import newest
-from .proved import Refused, ksi
 from .publications import Publications
 
 
@@ -44,13 +41,17 @@ def door(folder):
     return DoorOf(address, int(number), *scheme or ["http"])
 
 
-def opener():
-    """Opens URLs of this machine: by no proxy, whatever the environment names. The folder says where the door is, so its certificate shows
-    nothing more."""
+def local_context():
+    """The TLS of a door of this machine. The folder says where the door is, so its certificate shows nothing more."""
     context = ssl.create_default_context()
     context.check_hostname = False
     context.verify_mode = ssl.CERT_NONE
-    return urllib.request.build_opener(urllib.request.ProxyHandler({}), urllib.request.HTTPSHandler(context=context))
+    return context
+
+
+def opener():
+    """Opens URLs of this machine: by no proxy, whatever the environment names."""
+    return urllib.request.build_opener(urllib.request.ProxyHandler({}), urllib.request.HTTPSHandler(context=local_context()))
 
 
 class NoAnswer(Failed):
@@ -79,50 +80,11 @@ def ask(folder, path, content=None, kind="text/plain"):
         raise Failed(f"no service runs over {folder}, and the last one was not stopped: ksi-service start {folder}") from None
 
 
-def digest_of(path):
-    """The SHA-256 of a file, in hex."""
-    digest = hashlib.sha256()
-    with open(path, "rb") as file:
-        while piece := file.read(1 << 20):
-            digest.update(piece)
-    return digest.hexdigest()
-
-
-def sign(words):
-    """Signs a file by its hash: the file does not leave its owner. An older signature shows more than a new one, so none is replaced."""
-    name = words.out or words.file + ".ksig"
-    if os.path.lexists(name):
-        raise Failed(f"{name} is there already, and is not replaced: -o NAME saves another signature")
-    content = signature_by(words, digest_of(words.file))
-    files.write(name, content)
-    print(f"signed {name}{time_of(content)}")
-
-
 def signature_by(words, imprint):
     """The signature of a hash by the first door that gives one, or by the service over the folder."""
     if words.door:
         return client.sign(client.doors_of(words.door), imprint)
     return ask(words.folder, "/sign", imprint.encode())
-
-
-def time_of(signature):
-    """The second of a signature, with its date."""
-    try:
-        second = parts_of(signature).second
-        return f": second {second}, {date(second)}"
-    except (Malformed, ValueError, OverflowError):
-        return ""
-
-
-def extend(words):
-    """Extends a signature. One of an earlier plan also gets a bundle."""
-    with open(words.signature, "rb") as file:
-        signature = file.read()
-    name = words.out or words.signature
-    content = extension_by(words.folder, signature)
-    files.write(name, content)
-    print(f"extended {name}")
-    command_bundles.save(name, content, book_of(words.folder))
 
 
 def extension_by(folder, signature):
@@ -166,7 +128,7 @@ def published_over(folder):
 def publications(words):
     if words.qr and not words.print:
         raise Failed("--qr needs --print")
-    content = published_over(words.folder) if rests(words.folder) else ask(words.folder, "/publications")
+    content = publications_of(words)
     if content is None:
         raise Failed(f"nothing was published yet over {words.folder}")
     kept = files.content_of(words.out)
@@ -178,6 +140,20 @@ def publications(words):
     print(f"to be printed: {line_of(last, root)}")
     if words.print:
         print_last(words, last)
+
+
+def publications_of(words):
+    """The publications file of the first door that has one, or of the service over the folder."""
+    if not words.door:
+        return published_over(words.folder) if rests(words.folder) else ask(words.folder, "/publications")
+    reason = ""
+    for address in client.doors_of(words.door):
+        url = address if address.startswith(client.HTTPS) else f"http://{address}"
+        try:
+            return libksi.client().Client(url, os.environ.get("KSI_KEY"), patience=5.0).publications()
+        except libksi.client().Refused as refused:
+            reason = f"{address}: {refused}"
+    raise Failed(reason)
 
 
 def print_last(words, second):
@@ -200,25 +176,6 @@ def see_kept(words, kept, content):
         raise Failed(f"{words.out} has publications that {words.folder} does not have, and {hint}")
 
 
-def verify(words):
-    """By the proved `ksi verify`: its own line and status. A bundle is verified by it twice."""
-    if not os.path.exists(words.publications):
-        raise Failed(f"{words.publications}: no such file; `ksi-service publications` saves it")
-    if not os.path.exists(words.signature):
-        raise Failed(f"{words.signature}: no such file; `ksi-service sign {words.file}` makes one")
-    content = files.content_of(words.signature)
-    if bundles.is_bundle(content):
-        command_bundles.verify(content, digest_of(words.file), words.publications)
-        return
-    try:
-        print(ksi("verify", words.signature, digest_of(words.file), words.publications))
-    except Refused as refused:
-        hint = ""
-        if refused.line.startswith("refused V13 "):
-            hint = f" (the signature is not extended to a publication of that file: ksi-service extend {words.signature}, and ksi-service publications)"
-        raise Failed(f"{refused}{hint}") from None
-
-
 def add_asking(commands, name, does, told, *words, out=None):
     """Adds a command that asks a service, and saves the answer."""
     one = add(commands, name, does, told, *words)
@@ -228,11 +185,7 @@ def add_asking(commands, name, does, told, *words, out=None):
 
 
 def add_commands(commands):
-    one = add_asking(commands, "sign", sign, "sign a file: FILE.ksig", "file")
-    one.add_argument("--door", metavar="HOST:PORT,..", help="the doors of a service's machines, each HOST:PORT or https://HOST:PORT: if one is away or busy, the next one is asked")
-    add_asking(commands, "extend", extend, "extend a signature to the last publication", "signature")
     one = add_asking(commands, "publications", publications, "save the publications file", out="publications")
     one.add_argument("--print", action="store_true", help="print the last publication as text for a newspaper")
     one.add_argument("--qr", metavar="FILE.svg", help="with --print: save this text as a QR code")
-    one = add(commands, "verify", verify, "verify a file and its signature by the proved ksi", "file", "signature")
-    one.add_argument("publications", nargs="?", default="publications", help="the publications file (default: publications)")
+    one.add_argument("--door", metavar="HOST:PORT,..", help="the doors of a service's machines, in place of --folder")

@@ -1,11 +1,13 @@
-"""The commands over folders of services that are stopped: check, digests, backup and forget. And items, over any folder."""
+"""The commands over folders of services that are stopped: check, digests, backup and forget. And items and doctor, over any folder."""
 import contextlib
+import json
 import os
 
 from . import backup as backing
 from . import check as checking
+from . import command_asking
 from . import digests as digesting
-from . import files, hours
+from . import doctor, files, hours
 from . import forget as forgetting
 from . import replay as replaying
 from .command_words import DEFAULT, WORDS, Failed, add, add_folders, at_rest, natural, positive
@@ -66,6 +68,21 @@ def items(words):
     print(f"root {words.second} {root}", *(it.row(words.second) for it in found), sep="\n")
 
 
+def examine(words):
+    """Prints a line for each thing that may be wrong with a service, with the remedy. Raises Failed if one is wrong."""
+    if not os.path.exists(os.path.join(words.folder, "plan")):
+        raise Failed(f"{words.folder} has no plan: no service ran over it")
+    try:
+        status = json.loads(command_asking.ask(words.folder, "/status"))
+    except (Failed, ValueError):
+        status = None
+    found = list(doctor.Patient(words.folder, status).findings())
+    print(*(it.line for it in found), sep="\n")
+    wrong = sum(it.state == doctor.WRONG for it in found)
+    if wrong:
+        raise Failed(f"{checking.many(wrong, 'thing')} to repair")
+
+
 def forget(words):
     """Lets the nodes of a service that is stopped forget old seconds."""
     with at_rest(words.folder):
@@ -83,5 +100,6 @@ def add_commands(commands):
     one = add(commands, "items", items, "print the root and the items of a second, from the record")
     one.add_argument("folder", help=WORDS["folder"])
     one.add_argument("second", type=natural, help="the second, in Unix time")
+    add(commands, "doctor", examine, "look at a service: the clock, the room on the disk, check sums of files, the plan's end, other machines, the last outside anchor; a line each, with the remedy", "folder")
     add(commands, "digests", digests, "save digests of the lines between a stopped machine and others, for check --digests", "folder", "out")
     add_folders(commands, "backup", backup, "save the mirrors of the cores of folders, merged with other backups; the service may run", "out")

@@ -144,3 +144,23 @@ def mirror_file(start: int, core: int, rows: List[List[str]]) -> bytes:
     for second, items in lists.items():
         told += [element(0x09, number(0x01, second), number(0x02, core), number(0x03, len(items))), *items]
     return b"".join([*told, element(0x06)])
+
+
+class Head(NamedTuple):
+    imprint: str
+    """The hash that was signed, in hex."""
+    second: int
+    calendar_to: Optional[int]
+    """The last second of its calendar chain, or None if it has no chain."""
+    is_extended: bool
+    """Whether it has a publication record."""
+
+
+def head_of(signature: bytes) -> Head:
+    """The statements of a signature, of which none is checked here. Raises Malformed if they are missing."""
+    parts = parts_of(signature)
+    inner = list(read(next(read(signature)).body))
+    chains = [{part.kind: part.body for part in read(it.body)} for it in inner if it.kind == 0x802]
+    if chains and 0x01 not in chains[0]:
+        raise Malformed("a calendar chain without its last second")
+    return Head(parts.imprint, parts.second, number_of(chains[0][0x01]) if chains else None, any(it.kind == 0x803 for it in inner))

@@ -1,12 +1,20 @@
-"""Extends signatures: a signature gets the calendar chain to a publication from a core's answers. The proved `ksi verify` has to accept
-the result before it is returned, so nothing depends on how it is put together here."""
+"""Extends signatures: a signature gets the calendar chain to a publication from a core's answers. The proved libksi, or if it is not found
+`ksi verify`, has to accept the result before it is returned, so nothing depends on how it is put together here."""
+import collections
+import functools
 import os
 import tempfile
+from typing import List, NamedTuple, Optional, Tuple
 
+from . import libksi
 from .elements import Malformed, extended, parts_of
 from .errors import ServiceError
 from .plan import Plan
 from .proved import Refused, Stopped, ksi
+from .verifying import ByLibrary
+
+MOST_CHAINS = 256
+"""Of how many seconds the chains are kept."""
 
 
 class NotExtended(ServiceError):
@@ -28,21 +36,56 @@ def wanted(signature, last):
     return parts
 
 
+class Chain(NamedTuple):
+    """The calendar chain of a second to a publication."""
+
+    root: str
+    """The root of the second, in hex."""
+    top: str
+    """The root of the publication."""
+    links: List[Tuple[str, str]]
+
+
+class Chains:
+    """The chains of the last seconds that were asked for. Signatures of one second share theirs, and no chain ever changes."""
+
+    def __init__(self) -> None:
+        self.of: "collections.OrderedDict[Tuple[int, int], Chain]" = collections.OrderedDict()
+
+    def get(self, second: int, last: int) -> Optional[Chain]:
+        return self.of.get((second, last))
+
+    def add(self, second: int, last: int, chain: Chain) -> None:
+        self.of[second, last] = chain
+        while len(self.of) > MOST_CHAINS:
+            self.of.popitem(last=False)
+
+
 def asking(parts, last):
     """Yields questions to a core, takes its answers, and returns a function that makes the extension, or None if the core lacks a second."""
-    held = yield f"held {parts.second} 1"
+    chain = yield from asking_chain(parts.second, last)
+    return None if chain is None else making(parts, last, chain)
+
+
+def asking_chain(second, last):
+    """Yields questions to a core, takes its answers, and returns a Chain, or None if the core lacks a second."""
+    held = yield f"held {second} 1"
     if held[:1] == ["refused second"]:
-        raise NotExtended("other-service", f"second {parts.second} is not one of this service")
+        raise NotExtended("other-service", f"second {second} is not one of this service")
     roots = roots_in(held)
     if not roots:
         return None
-    if parts.root not in (None, roots[0][1]):
-        raise NotExtended("other-calendar", f"the cores hold another root for second {parts.second}")
-    chain = yield f"chain {parts.second} {last}"
+    chain = yield f"chain {second} {last}"
     if not chain[0].startswith("published "):
         return None
-    links = [tuple(row.split(" ")) for row in chain[1:]]
-    return lambda: put_together(parts, last, roots[0][1], chain[0].split(" ")[1], links)
+    return Chain(roots[0][1], chain[0].split(" ")[1], [tuple(row.split(" ")) for row in chain[1:]])
+
+
+def making(parts, last, chain):
+    """A function that makes the extension of a signature by a chain."""
+    if parts.root not in (None, chain.root):
+        raise NotExtended("other-calendar", f"the cores hold another root for second {parts.second}")
+    return lambda: put_together(parts, last, chain.root, chain.top, chain.links)
 
 
 def roots_in(block):
@@ -58,18 +101,35 @@ def put_together(parts, last, root, top, links):
 
 
 def accepted(make, parts, publications):
-    """Makes the extension and returns it if `ksi verify` accepts it against a publications file."""
+    """Makes the extension and returns it if it is accepted against a publications file."""
     content = make()
+    library = libksi.library()
+    line = line_by_process(content, parts, publications) if library is None else line_by(library, content, parts, publications)
+    if line != f"accepted {parts.second}":
+        raise NotExtended("not-accepted", line if line.startswith(("refused", "malformed")) else f"ksi verify says {line}")
+    return content
+
+
+def line_by(library, content, parts, publications):
+    """The verdict of libksi, which is no process of its own: many signatures are extended at once."""
+    return ByLibrary(library, bytes_of(publications, os.stat(publications).st_mtime_ns)).verify(content, bytes.fromhex(parts.imprint)).line
+
+
+@functools.lru_cache(maxsize=4)
+def bytes_of(path, _):
+    """A file's bytes since a time."""
+    with open(path, "rb") as file:
+        return file.read()
+
+
+def line_by_process(content, parts, publications):
     with tempfile.NamedTemporaryFile(prefix="ksi-extended-") as file:
         file.write(content)
         file.flush()
         try:
-            line = ksi("verify", file.name, parts.imprint, os.path.abspath(publications))
+            return ksi("verify", file.name, parts.imprint, os.path.abspath(publications))
         except Refused as refused:
             raise NotExtended("not-accepted", str(refused)) from None
-    if line != f"accepted {parts.second}":
-        raise NotExtended("not-accepted", f"ksi verify says {line}")
-    return content
 
 
 def extend_by(core, signature, publications):

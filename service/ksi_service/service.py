@@ -70,6 +70,7 @@ class Service:
         self.resting = Resting(self.host)
         self.questions = Questions(self.host, self.publishing)
         self.extensions = Spans()
+        self.chains = extension.Chains()
         self.began = time.monotonic()
         self.door = None
         self.own = []
@@ -96,18 +97,27 @@ class Service:
     async def extended(self, signature, last):
         """By a core of this machine that holds all seconds to the publication. If none answers, by the calendar files."""
         parts = extension.wanted(signature, last)
-        for name in self.host.cores:
-            try:
-                make = await self.asked(self.host.nodes[name], extension.asking(parts, last))
-            except Down:
-                continue
-            if make is not None:
-                return await asyncio.get_running_loop().run_in_executor(None, extension.accepted, make, parts, self.publications.path)
+        chain = self.chains.get(parts.second, last) or await self.chain_to(parts.second, last)
+        if chain is not None:
+            make = extension.making(parts, last, chain)
+            return await asyncio.get_running_loop().run_in_executor(None, extension.accepted, make, parts, self.publications.path)
         content = await asyncio.get_running_loop().run_in_executor(None, extended_by_files, self.calendar.calendar, signature, parts, last, self.publications.path)
         if content is not None:
             return content
         others = ": ask another machine's door" if self.host.trusted else ""
         raise extension.NotExtended("seconds-missing", f"no core that answers holds all seconds to {last}{others}")
+
+    async def chain_to(self, second, last):
+        """The calendar chain from a second to a publication by the first core that holds all seconds, or None."""
+        for name in self.host.cores:
+            try:
+                chain = await self.asked(self.host.nodes[name], extension.asking_chain(second, last))
+            except Down:
+                continue
+            if chain is not None:
+                self.chains.add(second, last, chain)
+                return chain
+        return None
 
     async def asked(self, core, work):
         """The result of work that asks a core questions."""

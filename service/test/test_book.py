@@ -319,7 +319,7 @@ class BundleTest(Quick):
             with self.assertRaises(NotBundle):
                 bundles.unpacked(content, bundles.PARTS)
         with self.assertRaises(NotVerified):
-            bundles.verified({it: b"" for it in bundles.PARTS}, imprint(1), self.at("print"))
+            bundles.verified({it: b"" for it in bundles.PARTS}, imprint(1), b"")
 
     def test_the_same_files_give_the_same_bytes(self):
         self.assertEqual(files.content_of(self.bundle()), files.content_of(self.bundle()))
