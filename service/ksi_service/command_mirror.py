@@ -58,9 +58,9 @@ def mirror(words):
 
 def once(made, on_publication):
     """Looks at all sources once, prints what each of them does, and exits with the status of the worst one."""
-    while made.look():
+    books = Books(made)
+    while books.look():
         pass
-    Books(made).look()
     for it in made.sources:
         print(f"{it.url} {it.state}{': ' + it.reason if it.reason else ''}")
     published = made.published()

@@ -6,7 +6,7 @@ from typing import Dict, List, Optional, Tuple
 
 from . import bundles, files
 from .elements import Malformed, published_in
-from .fetching import Unknown
+from .fetching import Fetched, Unknown
 from .mirror import Mirror
 from .proved import Refused
 from .source import AGREES, FAULTY, Source
@@ -28,27 +28,38 @@ class Books:
         self.etags: Dict[str, str] = {}
         """By source, the ETag of its last book that was compared."""
 
-    def look(self) -> None:
-        """Fetches the books of all services that agree."""
-        for source in (it for it in self.mirror.sources if it.is_door and it.is_there and it.state == AGREES):
-            try:
-                self.ask(source)
-            except (bundles.NotBundle, Malformed, NotMine) as reason:
-                source.judged = self.mirror.now()
-                self.mirror.note(source, FAULTY, f"its book: {reason}")
-            except Unknown:
-                # it is asked again
-                pass
+    def look(self) -> bool:
+        """Fetches the books, has the mirror look at its sources, and keeps the newest book of those that agree. Returns whether the mirror
+        went on to the next plan. The mirror looks later, so it has the publication to which a book leads."""
+        fetched = {source: self.fetched(source) for source in self.mirror.sources if source.is_door}
+        went_on = self.mirror.look()
+        for source, found in fetched.items():
+            if found is not None and source.is_there and source.state == AGREES:
+                self.take(source, found)
+        return went_on
 
-    def ask(self, source: Source) -> None:
-        fetched = source.server.get("/v1/book", MOST_BOOK, self.etags.get(source.url, ""))
-        if fetched is None or fetched.content is None or fetched.content == self.content:
-            return
-        if self.see(bundles.unpacked(fetched.content, PARTS)):
-            self.etags[source.url] = fetched.etag
-            if self.is_newer(fetched.content):
-                files.write(self.path, fetched.content)
-                self.content = fetched.content
+    def fetched(self, source: Source) -> Optional[Fetched]:
+        """The book of a source, unless it has none, or the one that was compared last."""
+        try:
+            found = source.server.get("/v1/book", MOST_BOOK, self.etags.get(source.url, ""))
+        except Unknown:
+            return None
+        return found if found and found.content is not None else None
+
+    def take(self, source: Source, fetched: Fetched) -> None:
+        try:
+            if fetched.content == self.content or self.see(bundles.unpacked(fetched.content, PARTS)):
+                self.etags[source.url] = fetched.etag
+                self.keep(fetched.content)
+        except (bundles.NotBundle, Malformed, NotMine) as reason:
+            source.judged = self.mirror.now()
+            self.mirror.note(source, FAULTY, f"its book: {reason}")
+
+    def keep(self, content: bytes) -> None:
+        """Keeps a book that is newer than the one that is kept."""
+        if self.content is None or age_of(content) > age_of(self.content):
+            files.write(self.path, content)
+            self.content = content
 
     def see(self, parts: Dict[str, bytes]) -> bool:
         """Whether a book's signature leads to a publication of the plan that the mirror follows. Raises NotMine if the book has another
@@ -69,9 +80,6 @@ class Books:
                     return False
                 raise NotMine(str(refused)) from None
         return True
-
-    def is_newer(self, content: bytes) -> bool:
-        return self.content is None or age_of(content) > age_of(self.content)
 
 
 def age_of(content: bytes) -> Tuple[List[Tuple[int, str]], int]:

@@ -147,10 +147,10 @@ class MirrorHouse(House):
         }
 
 
-def look(mirror: Mirror, books: Books) -> None:
+def look(books: Books) -> None:
     """Looks at the sources. What fails now may work the next time; the mirror's own damaged files end it."""
+    mirror = books.mirror
     try:
-        mirror.look()
         books.look()
     except roots.NotRun as error:
         log.warning("the look failed: %s", error)
@@ -166,7 +166,7 @@ async def looks(mirror: Mirror, house: MirrorHouse, every: float) -> None:
     loop = asyncio.get_running_loop()
     while True:
         began = time.monotonic()
-        await loop.run_in_executor(None, look, mirror, house.books)
+        await loop.run_in_executor(None, look, house.books)
         if house.publications() is not None:
             house.anchors.published(*mirror.published()[-1])
         if house.probe:
