@@ -9,6 +9,7 @@ from . import files, hours
 from . import forget as forgetting
 from . import replay as replaying
 from .command_words import DEFAULT, WORDS, Failed, add, add_folders, at_rest, natural, positive
+from .elements import items_file
 from .items import items_of
 
 
@@ -63,6 +64,8 @@ def backup(words):
 def items(words):
     """The items of a second from the record, whether or not the service runs."""
     root, found = items_of(words.folder, words.second)
+    if words.save:
+        files.write(words.save, items_file(words.second, root, found))
     print(f"root {words.second} {root}", *(it.row(words.second) for it in found), sep="\n")
 
 
@@ -83,5 +86,6 @@ def add_commands(commands):
     one = add(commands, "items", items, "print the root and the items of a second, from the record")
     one.add_argument("folder", help=WORDS["folder"])
     one.add_argument("second", type=natural, help="the second, in Unix time")
+    one.add_argument("--save", metavar="FILE", help="also save them as a journal of this second alone, which `ksi_roots audit` takes")
     add(commands, "digests", digests, "save digests of the lines between a stopped machine and others, for check --digests", "folder", "out")
     add_folders(commands, "backup", backup, "save the mirrors of the cores of folders, merged with other backups; the service may run", "out")
