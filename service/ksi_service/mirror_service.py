@@ -8,7 +8,7 @@ import signal
 import time
 from typing import Any, Dict, List, Optional, Union
 
-from . import extension, files, roots
+from . import extension, files, roots, subtrees
 from .access import Access
 from .anchors import Anchors
 from .answers import Refusal
@@ -142,7 +142,7 @@ def extended(mirror: Mirror, signature: bytes, to: Optional[int] = None) -> byte
     publications."""
     last = mirror.seen.last() if to is None else to
     parts = extension.wanted(signature, last)
-    return extension.accepted(lambda: roots.extended(mirror.calendar.folder, signature, last), parts, mirror.seen.path)
+    return subtrees.extend(mirror.subtrees, signature, parts, (last, mirror.seen.root_of[last]), mirror.seen.path)
 
 
 def look(mirror: Mirror) -> None:

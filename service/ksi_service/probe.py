@@ -8,7 +8,7 @@ import secrets
 import time
 from typing import Any, Dict, List
 
-from . import extension, files, roots
+from . import extension, files, roots, subtrees
 from .elements import Malformed, parts_of
 from .fetching import Server, Unknown
 from .mirror import Mirror
@@ -64,7 +64,7 @@ class Probe:
             parts = parts_of(signature)
             if parts.second > last:
                 return
-            extension.accepted(lambda: roots.extended(self.mirror.calendar.folder, signature, last), parts, self.mirror.seen.path)
+            subtrees.extend(self.mirror.subtrees, signature, parts, (last, self.mirror.seen.root_of[last]), self.mirror.seen.path)
             self.extended += 1
             files.remove(path)
         except roots.NotRun as reason:
