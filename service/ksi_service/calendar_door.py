@@ -9,7 +9,7 @@ import hashlib
 import json
 import re
 from http import HTTPStatus
-from typing import Any, Awaitable, Callable, Dict, Optional, Tuple
+from typing import Any, Awaitable, Callable, Dict, Optional
 
 from .answers import BYTES, Answer, Refusal
 from .calendar_files import Calendar

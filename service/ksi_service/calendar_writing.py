@@ -8,6 +8,7 @@ from typing import Dict, Optional
 
 from .calendar_files import Calendar, plan_name, roots_of
 from .lines import Down
+from .subtrees import Subtrees
 
 log = logging.getLogger(__name__)
 
@@ -29,6 +30,7 @@ class CalendarWriting:
         self.host = host
         plan = plan_name(os.path.join(folder, "plan"), host.plan.start)
         self.calendar = Calendar(os.path.join(folder, "calendar"), plan)
+        self.subtrees = Subtrees(self.calendar)
         self.wrote = time.monotonic()
         self.is_logged = False
 

@@ -11,6 +11,7 @@ from . import doctor, files, hours
 from . import forget as forgetting
 from . import replay as replaying
 from .command_words import DEFAULT, WORDS, Failed, add, add_folders, at_rest, natural, positive
+from .elements import items_file
 from .items import items_of
 
 
@@ -65,6 +66,8 @@ def backup(words):
 def items(words):
     """The items of a second from the record, whether or not the service runs."""
     root, found = items_of(words.folder, words.second)
+    if words.save:
+        files.write(words.save, items_file(words.second, root, found))
     print(f"root {words.second} {root}", *(it.row(words.second) for it in found), sep="\n")
 
 
@@ -100,6 +103,7 @@ def add_commands(commands):
     one = add(commands, "items", items, "print the root and the items of a second, from the record")
     one.add_argument("folder", help=WORDS["folder"])
     one.add_argument("second", type=natural, help="the second, in Unix time")
+    one.add_argument("--save", metavar="FILE", help="also save them as a journal of this second alone, which `ksi_roots audit` takes")
     add(commands, "doctor", examine, "look at a service: the clock, the room on the disk, check sums of files, the plan's end, other machines, the last outside anchor; a line each, with the remedy", "folder")
     add(commands, "digests", digests, "save digests of the lines between a stopped machine and others, for check --digests", "folder", "out")
     add_folders(commands, "backup", backup, "save the mirrors of the cores of folders, merged with other backups; the service may run", "out")

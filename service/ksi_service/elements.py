@@ -1,9 +1,10 @@
-"""The files of `ksi`, as far as the host makes them: elements, publications files, mirrors, and a signature's extension
-(docs/FORMATS.md). Nothing here decides whether a signature is good: `ksi verify` does."""
+"""The files of `ksi`, as far as the host makes them: elements, publications files, mirrors, journals of one second, and a signature's
+extension (docs/FORMATS.md). Nothing here decides whether a signature is good: `ksi verify` does."""
 from types import MappingProxyType
 from typing import Dict, Iterator, List, Mapping, NamedTuple, Optional, Tuple
 
 MAGIC_PUBLICATIONS, MAGIC_MIRROR = b"KSIPUBLF", b"KSIMIRR1"
+MAGICS_JOURNAL = (b"KSIJRNL1", b"KSIJRNL2")
 MOST_BODY, MOST_NUMBER = 0xFFFF, 8
 """The most bytes of an element's body, and of one that is a number."""
 FORWARD = 0x60
@@ -131,6 +132,19 @@ def extended(parts: Parts, last: int, root: str, top: str, links: List[Tuple[str
     return element(0x800, *parts.kept, element(0x802, *chain), record)
 
 
+def item(text: str, level: int, name: Optional[str] = None) -> bytes:
+    """An item of a second, with its imprint in hex."""
+    body = b"\x01" + bytes.fromhex(text) + bytes([level])
+    return element(0x07, body + name.encode()) if name else element(0x03, body)
+
+
+def items_file(second: int, root: str, items: List[Tuple[str, int, Optional[str]]]) -> bytes:
+    """The journal of one second, with its root and the imprints of its items in hex. It is of version 2 if an item has a name."""
+    head = element(0x02, number(0x01, second), imprint(0x02, root), number(0x03, len(items)))
+    magic = MAGICS_JOURNAL[any(name for _, _, name in items)]
+    return b"".join([magic, number(0x01, second), head, *(item(*it) for it in items), element(0x06)])
+
+
 def mirror_file(start: int, core: int, rows: List[List[str]]) -> bytes:
     """The mirror of the seconds that a core holds and sealed, from its rows `root T HEX` and `item T HEX LEVEL [NAME]`."""
     roots, lists = [], {}
@@ -138,8 +152,7 @@ def mirror_file(start: int, core: int, rows: List[List[str]]) -> bytes:
         if kind == "root":
             roots.append(element(0x02, number(0x01, int(second)), imprint(0x02, text)))
         else:
-            body = b"\x01" + bytes.fromhex(text) + bytes([int(rest[0])])
-            lists.setdefault(int(second), []).append(element(0x07, body + rest[1].encode()) if rest[1:] else element(0x03, body))
+            lists.setdefault(int(second), []).append(item(text, int(rest[0]), *rest[1:]))
     told = [MAGIC_MIRROR, number(0x01, start), *roots]
     for second, items in lists.items():
         told += [element(0x09, number(0x01, second), number(0x02, core), number(0x03, len(items))), *items]

@@ -27,6 +27,7 @@ from .fetching import Server, Unknown
 from .hours import Broken
 from .seen import Seen, SeenPublications
 from .source import AGREES, FAULTY, FORK, UNKNOWN, Published, Source
+from .subtrees import Subtrees
 
 log = logging.getLogger(__name__)
 
@@ -48,6 +49,7 @@ class Mirror:
         self.again = again
         self.cases_folder = os.path.join(folder, "evidence")
         self.calendar: Optional[Calendar] = None
+        self.subtrees: Optional[Subtrees] = None
         self.seen: Optional[SeenPublications] = None
         self.sources = [Source(Server(url, *([all_seconds] if all_seconds else [])), is_door, "") for urls, is_door in ((doors, True), (also, False)) for url in urls]
         self.cases = list(evidence.cases(self.cases_folder))
@@ -84,6 +86,7 @@ class Mirror:
         except Malformed as fault:
             raise Broken(f"{os.path.join(folder, 'publications')} is damaged: {fault}") from None
         self.calendar = calendar
+        self.subtrees = Subtrees(calendar)
         last = self.seen.last()
         if last and (calendar.next <= last or roots.root_if_any(calendar.folder, last) != self.seen.root_of[last]):
             raise Damaged(f"the calendar files in {calendar.folder} do not give the last publication of {self.seen.path}: bring back a copy, or begin a new folder")

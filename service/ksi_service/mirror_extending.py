@@ -1,7 +1,7 @@
 """Extends signatures by the calendar files of a mirror: of the plan that it follows, and of those from before."""
-from typing import Optional
+from typing import NoReturn, Optional
 
-from . import extension
+from . import extension, roots, subtrees
 from .earlier import by_files, plan_of
 from .mirror import Mirror
 
@@ -17,10 +17,18 @@ def extended(mirror: Mirror, signature: bytes, to: Optional[int] = None) -> byte
     if plan is not None:
         return plan.extended(signature, to)
     last = (seen.last() if seen else 0) if to is None else to
-    return by_files(calendar, signature, last, seen.path) if calendar and seen else nothing_of(signature, last)
+    if calendar is None or seen is None:
+        nothing_of(signature, last)
+    if last not in seen.root_of:
+        return by_files(calendar, signature, last, seen.path)
+    parts = extension.wanted(signature, last)
+    try:
+        return subtrees.extend(mirror.subtrees, signature, parts, (last, seen.root_of[last]), seen.path)
+    except roots.NotComputed as reason:
+        raise extension.NotExtended("not-accepted", str(reason)) from None
 
 
-def nothing_of(signature: bytes, last: int) -> bytes:
+def nothing_of(signature: bytes, last: int) -> NoReturn:
     """Raises NotExtended: the mirror has no calendar of the signature's plan yet."""
     extension.wanted(signature, last)
     raise extension.NotExtended("seconds-missing", "the mirror has no calendar of that second yet")

@@ -24,6 +24,10 @@ class Publications:
         """Whether a second was published."""
         return any(it == second for it, _ in self.published)
 
+    def root(self, second):
+        """The root of a published second, in hex."""
+        return next(root for it, root in self.published if it == second)
+
     def add(self, second, root):
         """Publishes the root of the calendar to a second, in hex, unless a later one was. Returns whether it did."""
         if self.last() is not None and second <= self.last():

@@ -4,7 +4,7 @@ import logging
 import os
 import time
 
-from . import earlier, extension, files, roots
+from . import earlier, extension, files, roots, subtrees
 from .admission import MOST_WAITING
 from .anchors import Anchors
 from .asking import Questions
@@ -101,7 +101,7 @@ class Service:
         if chain is not None:
             make = extension.making(parts, last, chain)
             return await asyncio.get_running_loop().run_in_executor(None, extension.accepted, make, parts, self.publications.path)
-        content = await asyncio.get_running_loop().run_in_executor(None, extended_by_files, self.calendar.calendar, signature, parts, last, self.publications.path)
+        content = await asyncio.get_running_loop().run_in_executor(None, extended_by_files, self.calendar.subtrees, signature, parts, last, self.publications)
         if content is not None:
             return content
         others = ": ask another machine's door" if self.host.trusted else ""
@@ -210,15 +210,12 @@ class Service:
             task.result()
 
 
-def extended_by_files(calendar, signature, parts, last, publications):
-    """A signature that is extended to second `last` by the proved `ksi_roots`, or None if the calendar files do not reach it."""
-    if calendar.next <= last:
+def extended_by_files(kept, signature, parts, last, publications):
+    """A signature that is extended to second `last` over the calendar files, or None if they do not reach it."""
+    if kept.calendar.next <= last:
         return None
-
-    def make():
-        calendar.flush()
-        return roots.extended(calendar.folder, signature, last)
+    kept.calendar.flush()
     try:
-        return extension.accepted(make, parts, publications)
+        return subtrees.extend(kept, signature, parts, (last, publications.root(last)), publications.path)
     except (roots.NotComputed, roots.NotRun, Missing):
         return None

@@ -9,7 +9,7 @@ from unittest import mock
 
 import stands
 from ksi_service import backup, files
-from ksi_service.elements import mirror_file
+from ksi_service.elements import items_file, mirror_file
 from ksi_service.hours import Broken
 from ksi_service.items import Item, NoItems, items_of, root_of
 from ksi_service.plan import Plan
@@ -119,9 +119,12 @@ class CommandTest(Served):
         self.assertIn(f"no root of second {second + 1000}", told.stderr)
         found = []
         for it in range(second, second + 3):
-            told = subprocess.run([sys.executable, stands.COMMAND, "items", self.folder, str(it)], env=self.outside, capture_output=True, text=True, check=False)
+            told = subprocess.run([sys.executable, stands.COMMAND, "items", self.folder, str(it), "--save", f"{self.folder}.items"], env=self.outside, capture_output=True, text=True, check=False)
             found += told.stdout.splitlines()
         self.assertTrue(any(row.startswith("root ") for row in found), found)
+        last = max(at for at, row in enumerate(found) if row.startswith("root "))
+        (_, second, root), *items = (row.split(" ") for row in found[last:])
+        self.assertEqual(files.content_of(f"{self.folder}.items"), items_file(int(second), root, [(it[2], int(it[3]), it[4] if it[4:] else None) for it in items]))
 
 
 if __name__ == "__main__":

@@ -25,6 +25,7 @@ from ksi_service.mirror_service import MirrorHouse, extended
 from ksi_service.probe import Probe
 from ksi_service.publications import Publications
 from ksi_service.service import extended_by_files
+from ksi_service.subtrees import Subtrees
 from mirrored import PLAN, Mirrored, Service, root_of
 from stand_in import signature_of
 
@@ -81,12 +82,15 @@ class ByFilesTest(Mirrored):
         publications = Publications(self.room.name)
         publications.add(*one.publications[0])
         parts = extension.wanted(signature, publications.last())
-        self.assertIsNone(extended_by_files(calendar, signature, parts, publications.last(), publications.path))
+        kept = Subtrees(calendar)
+        self.assertIsNone(extended_by_files(kept, signature, parts, publications.last(), publications))
         calendar.add(b"".join(one.roots))
-        content = extended_by_files(calendar, signature, parts, publications.last(), publications.path)
+        content = extended_by_files(kept, signature, parts, publications.last(), publications)
         self.assertEqual(extension.wanted(content, publications.last()).second, PLAN.start + 5)
-        with mock.patch.object(roots, "run", side_effect=programs.Missing("ksi_roots is not built")):
-            self.assertIsNone(extended_by_files(calendar, signature, parts, publications.last(), publications.path))
+        with mock.patch.object(Subtrees, "extended", return_value=None):
+            self.assertEqual(extended_by_files(kept, signature, parts, publications.last(), publications), content)
+            with mock.patch.object(roots, "run", side_effect=programs.Missing("ksi_roots is not built")):
+                self.assertIsNone(extended_by_files(kept, signature, parts, publications.last(), publications))
 
 
 class ServedTest(Mirrored):

@@ -1,4 +1,4 @@
--- The kept calendar as a tree for the links of a calendar chain.
+-- The calendar of seconds as a tree for the links of a calendar chain.
 use Rattle.std.proofs.Common.{◌≡◌, ℕ, ◌+◌, ◌<◌, true, List, [], ◌∷◌, ◌++◌, length, Ok, Option, Some, None, refl, sym, ap, ◌∙◌, arith, inl, inr}
 use Rattle.std.proofs.lemmas.Bool.{eqb-true}
 use Rattle.ksi_split.specs.declared.side.Side.{Side}
@@ -7,15 +7,13 @@ use Rattle.ksi_split.specs.Parts.{Part, half_of, part_at}
 use Rattle.ksi_split.specs.Trees.{node_at}
 use Rattle.ksi_calendar.specs.Climbing.{calendar_join, calendar_join_text}
 use Rattle.ksi_calendar.specs.Calendar as calendars
-use Rattle.ksi_journal.specs.Journal.{Contents, IsJournal}
-use Rattle.ksi_journal.specs.Calendar.{calendar_of}
 use Rattle.ksi_beside.specs.Beside.{rung_text}
 use Rattle.ksi_beside.specs.Standing.{IsTree}
 use Rattle.ksi_auditor.specs.Kept.{calendar_text, joined_imprints}
 use Rattle.ksi_auditor.proofs.Cases.{lt_cases}
 use Rattle.ksi_auditor.proofs.Cited.{Laws}
 use Rattle.ksi_auditor.proofs.Fitting.{above_a_node}
-use Rattle.ksi_auditor.proofs.Keeping.{all_of_tree, leaf_size}
+use Rattle.ksi_auditor.proofs.Keeping.{all_of_tree}
 use Rattle.ksi_auditor.proofs.Parts.{node_part, node_below, both_join, whole}
 use Rattle.ksi_auditor.proofs.Strings.{left_same, right_same}
 
@@ -28,10 +26,7 @@ joined_cases None right text e = absurd cc
 joined_cases (Some l) None text e = absurd cc
 joined_cases (Some l) (Some r) text e = (l, r, refl, refl, sym (some_is e))
 
-module _ (laws : Laws) (image : List ℕ → List ℕ) (sizes : (x : List ℕ) → length (image x) ≡ 33) (j : Contents) (journal : IsJournal image j) (p : ℕ) (covered : calendars.is_covered (calendar_of j) p ≡ true) where
-  abbrev pub seconds : calendars.Seconds
-  seconds = calendar_of j
-
+module _ (laws : Laws) (image : List ℕ → List ℕ) (sizes : (x : List ℕ) → length (image x) ≡ 33) (seconds : calendars.Seconds) (leaves : (t : ℕ) → length (calendars.calendar_leaf seconds t) ≡ 33) (p : ℕ) (covered : calendars.is_covered seconds p ≡ true) where
   abbrev pub tree_at : Part → List ℕ
   tree_at q = calendars.calendar_tree image seconds q.first q.count
 
@@ -51,7 +46,7 @@ module _ (laws : Laws) (image : List ℕ → List ℕ) (sizes : (x : List ℕ) �
   node_size : (sides : List Side) (x : List ℕ) → node sides ≡ Some x → length x ≡ 33
   node_size sides x e =
       let n = node_is_of sides x e in
-      ap length n.2 ∙ all_of_tree (λ (x : List ℕ). length x ≡ 33) (calendar_join image) (calendars.calendar_leaf seconds) (λ a b. sizes _) (λ t. leaf_size image j t journal) n.0.first n.0.count
+      ap length n.2 ∙ all_of_tree (λ (x : List ℕ). length x ≡ 33) (calendar_join image) (calendars.calendar_leaf seconds) (λ a b. sizes _) leaves n.0.first n.0.count
 
   hashes : (sides : List Side) (text : List ℕ) → calendar_text image seconds p sides ≡ Some text → node sides ≡ Some (image text)
   hashes sides text e =

@@ -7,11 +7,12 @@ use Rattle.ksi_split.specs.Trees.{tree, tree_within}
 use Rattle.ksi_aggtree.specs.declared.item.Item.{Item}
 use Rattle.ksi_aggtree.specs.Names.{IsName}
 use Rattle.ksi_aggtree.specs.Rounds.{item_at, leaf_level, tree_of}
-use Rattle.ksi_calendar.specs.Calendar.{calendar_leaf}
+use Rattle.ksi_calendar.specs.Calendar.{Seconds, calendar_leaf}
 use Rattle.ksi_calendar.specs.Covered.{second_leaf}
 use Rattle.ksi_aggtree.specs.declared.second.Second.{Second}
-use Rattle.ksi_journal.specs.Journal.{Contents, IsItem, IsRootOf, IsSecond, IsJournal, kept_among, root_at, items_of, items_at}
+use Rattle.ksi_journal.specs.Journal.{Contents, IsItem, IsRootOf, IsSecond, IsJournal, kept_among, root_at, root_kept, items_of, items_at}
 use Rattle.ksi_journal.specs.Calendar.{calendar_of, roots_from}
+use Rattle.ksi_auditor.specs.Shown.{AreItemsOf}
 use Rattle.ksi_auditor.proofs.Cases.{lt_cases, eq_cases}
 
 -- what holds of each leaf and of each join holds of a tree
@@ -61,6 +62,7 @@ module _ (image : List ℕ → List ℕ) where
     | inr other ↦ (let found = rw other.0 at e in kept_is others t kept all.1 found)
   ]
 
+  -- at most 65,536 items, as a journal may have them
   pub record KeptItems (items : List Item) : Type 0 where
     pub few : length items ≤ 65536
     pub each : AllByRecursion IsItem items
@@ -73,26 +75,48 @@ module _ (image : List ℕ → List ℕ) where
       of None e = record { few = omega arith; each = tt }
       of (Some kept) e = let is = kept_is j.seconds t kept journal.seconds e in record { few = is.few; each = is.items }
 
-  -- the leaf of a second that is not the zero imprint is the root of its items
-  pub record HasItems (j : Contents) (t : ℕ) : Type 0 where
-    pub some : 0 < length (items_at j t)
-    pub root : (tree_of image (items_at j t)).imprint ≡ second_leaf (root_at j) j.start t
+  pub items_are : (j : Contents) (t : ℕ) (root : List ℕ) → IsJournal image j → root_at j t ≡ Some root → AreItemsOf image (items_at j t) root
+  unfolding items_at root_at
+  items_are j t root journal e = of (kept_among j.seconds t) refl e
+    where
+      of : (found : Option Second) → kept_among j.seconds t ≡ found → root_kept found ≡ Some root → AreItemsOf image (items_of found) root
+      of None is e = absurd cc
+      of (Some kept) is e =
+          let here = kept_is j.seconds t kept journal.seconds is in
+          let same : kept.root ≡ root = cc in
+          record { few = here.few; each = here.items; tree = subst (IsRootOf image kept.items) same here.tree }
 
-  rooted : (items : List Item) (root : List ℕ) → IsRootOf image items root → root ≢ zero_imprint → (0 < length items) × ((tree_of image items).imprint ≡ root)
+  -- there are items, and this is the root of their tree
+  pub record HasItems (items : List Item) (root : List ℕ) : Type 0 where
+    pub some : 0 < length items
+    pub tree : (tree_of image items).imprint ≡ root
+
+  pub rooted : (items : List Item) (root : List ℕ) → IsRootOf image items root → root ≢ zero_imprint → HasItems items root
   rooted [] root is other = absurd (other is)
-  rooted (item ∷ items) root is other = (omega arith, is.1)
+  rooted (item ∷ items) root is other = record { some = omega arith; tree = is.1 }
 
-  pub leaf_has_items : (j : Contents) (t : ℕ) → IsJournal image j → second_leaf (root_at j) j.start t ≢ zero_imprint → HasItems j t
+  -- a leaf that is not the zero imprint is the root of the second's items
+  pub leaf_has_items : (j : Contents) (t : ℕ) → IsJournal image j → second_leaf (root_at j) j.start t ≢ zero_imprint → HasItems (items_at j t) (second_leaf (root_at j) j.start t)
   unfolding items_at root_at
   leaf_has_items j t journal other = elim (lt_cases t j.start) [
     | inl before ↦ absurd (other (rw before.0 refl))
     | inr from ↦ of (kept_among j.seconds t) refl from.0
   ]
     where
-      of : (found : Option Second) → kept_among j.seconds t ≡ found → nat_lt t j.start ≡ false → HasItems j t
+      of : (found : Option Second) → kept_among j.seconds t ≡ found → nat_lt t j.start ≡ false → HasItems (items_at j t) (second_leaf (root_at j) j.start t)
       of None e from = absurd (other (rw (from, e) refl))
       of (Some kept) e from =
           let leaf : second_leaf (root_at j) j.start t ≡ kept.root = rw (from, e) refl in
           let is = rooted kept.items kept.root (kept_is j.seconds t kept journal.seconds e).tree (λ zero_root. other (leaf ∙ zero_root)) in
           let items : items_at j t ≡ kept.items = ap items_of e in
-          record { some = rw items is.0; root = rw items (is.1 ∙ sym leaf) }
+          record { some = rw items is.some; tree = rw items (is.tree ∙ sym leaf) }
+
+  -- ---- leaves of imprints
+
+  imprint_size : (roots : List (List ℕ)) (k : ℕ) → AllByRecursion IsImprint roots → length (slice_index_or roots k zero_imprint) ≡ 33
+  imprint_size [] k all = refl
+  imprint_size (root ∷ roots) zero all = all.0.size
+  imprint_size (root ∷ roots) (suc k) all = imprint_size roots k all.1
+
+  pub imprint_leaf : (seconds : Seconds) (t : ℕ) → AllByRecursion IsImprint seconds.roots → length (calendar_leaf seconds t) ≡ 33
+  imprint_leaf seconds t all = elim (lt_cases t seconds.start) [ inl before ↦ rw before.0 refl | inr from ↦ rw from.0 (imprint_size seconds.roots (t - seconds.start) all) ]

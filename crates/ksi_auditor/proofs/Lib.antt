@@ -11,6 +11,8 @@ pub mod Keeping
 pub mod CalendarTree
 pub mod RoundTree
 pub mod Outcomes
+pub mod ShowingLaid
+pub mod Over
 pub mod Showing
 pub mod Beneath
 pub mod Telling

@@ -1,5 +1,5 @@
 -- Signatures for seconds that no root is kept for.
-use Rattle.std.proofs.Common.{◌≡◌, ◌≤◌, ℕ, Bool, false, refl, arith, inl, inr}
+use Rattle.std.proofs.Common.{◌≡◌, ◌≤◌, ℕ, false, refl, arith, inl, inr}
 use Rattle.std.specs.Prelude.{nat_lt}
 use Rattle.ksi_imprint.specs.Imprints.{zero_imprint}
 use Rattle.ksi_calendar.specs.Covered.{second_leaf}

@@ -10,6 +10,7 @@ use Rattle.ksi_aggtree.specs.declared.item.Item.{Item}
 use Rattle.ksi_aggtree.specs.Nodes.{text_of}
 use Rattle.ksi_aggtree.specs.Links.{PlainLink}
 use Rattle.ksi_beside.specs.Beside.{Pair, rungs_from, calendar_rungs_from, pairs_below, differing}
+use Rattle.ksi_calendar.specs.Calendar.{Seconds}
 use Rattle.ksi_calendar.specs.Covered.{first_missing, covered_root}
 use Rattle.ksi_signature.specs.Values.{Calendar}
 use Rattle.ksi_signature.specs.declared.signature.Signature.{Signature}
@@ -38,9 +39,9 @@ link_sides signature = sides_of (links_of signature)
 
 -- ---- the strings that are compared, from the top
 
--- each calendar link's string and that of the kept calendar
-abbrev pub calendar_pairs : (List ℕ → List ℕ) → Contents → Calendar → List Pair
-calendar_pairs image journal calendar = pairs_below (calendar_text image (calendar_of journal) calendar.publication) [] (calendar_rungs_from image calendar.input calendar.links)
+-- each calendar link's string and that of the calendar of the seconds
+abbrev pub calendar_pairs : (List ℕ → List ℕ) → Seconds → Calendar → List Pair
+calendar_pairs image seconds calendar = pairs_below (calendar_text image seconds calendar.publication) [] (calendar_rungs_from image calendar.input calendar.links)
 
 -- each aggregation link's string and that of the tree of the items, as far down as it has one: to the leaf of an item without a
 -- name, or to the item below the leaf of a name
@@ -76,9 +77,18 @@ abbrev pub compared : (List ℕ → List ℕ) → List Item → List PlainLink �
 compared image items links hash t above =
     found t (length items) (sides_of links) (length (item_pairs image items links hash)) (differing (above ++ item_pairs image items links hash))
 
+-- beside the calendar of seconds, and then beside the tree of the items of second t
+abbrev pub laid_over : (List ℕ → List ℕ) → Seconds → List Item → List PlainLink → List ℕ → ℕ → Calendar → Audit
+laid_over image seconds items links hash t calendar = compared image items links hash t (calendar_pairs image seconds calendar)
+
+-- the same, if there is a calendar chain
+abbrev pub laid_if : (List ℕ → List ℕ) → Seconds → List Item → List PlainLink → List ℕ → ℕ → Option Calendar → Audit
+laid_if image seconds items links hash t None = NotAccepted NoCalendar
+laid_if image seconds items links hash t (Some calendar) = laid_over image seconds items links hash t calendar
+
 -- where the signature is accepted and its publication is decided
 abbrev pub laid_beside : (List ℕ → List ℕ) → Contents → List PlainLink → List ℕ → ℕ → Calendar → Audit
-laid_beside image journal links hash t calendar = compared image (items_at journal t) links hash t (calendar_pairs image journal calendar)
+laid_beside image journal links hash t calendar = laid_over image (calendar_of journal) (items_at journal t) links hash t calendar
 
 abbrev pub decided : (List ℕ → List ℕ) → Contents → List PlainLink → List ℕ → ℕ → Calendar → Option ℕ → Audit
 decided image journal links hash t calendar (Some second) = Undecided second

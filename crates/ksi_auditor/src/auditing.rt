@@ -1,27 +1,20 @@
-ghost use Rattle.std.specs.Prelude.{◌≡◌, ◌<◌, ◌≤◌, ◌-◌, ◌^◌, ℕ, [], Some, None, IfOk, IfSome, OnErr, length, map, option_map};
+ghost use Rattle.std.specs.Prelude.{◌≡◌, ◌<◌, ◌≤◌, ◌^◌, ℕ, Some, None, IfOk, IfSome, OnErr, length, map, option_map};
 ghost use Rattle.ksi_aggtree.specs.Climbing.{level_after};
 ghost use Rattle.ksi_aggtree.specs.Links.{highest_level};
-ghost use Rattle.ksi_aggtree.specs.Rounds.{IsRound, most_items};
 ghost use Rattle.ksi_signature.specs.Seen.{seen};
 ghost use Rattle.ksi_verifier.specs.Leading.{all_links};
 ghost use Rattle.ksi_verifier.specs.Lent.{calendar_of};
 ghost use Rattle.ksi_verifier.specs.declared.verdict.Verdict.TheVariants as verdicts;
 ghost use Rattle.ksi_calendar.specs.Covered.{first_missing, covered_root};
 ghost use Rattle.ksi_journal.specs.Journal.{IsJournal, root_at};
-ghost use Rattle.ksi_auditor.specs.Audit.{accepted_or_not, audit, compared, decided, item_named, kept_or_not, laid_beside};
+ghost use Rattle.ksi_auditor.specs.Audit.{accepted_or_not, audit, decided, kept_or_not, laid_beside};
 ghost use Rattle.ksi_auditor.specs.Shown.{HasClash, IsShort, MissedIsClash, Shows};
-ghost use Rattle.ksi_auditor.specs.declared.answer.Audit.TheVariants as answers;
 
 use crate::answer::Audit;
-use crate::calendar::CalendarTo;
-use crate::chains::{along_chains, count_of};
-use crate::items::ItemsOf;
 use crate::laid::LaidChain;
 use crate::laws::{audit_shows, low_levels, missed_seconds};
+use crate::laying::lay_beside;
 use crate::links::{are_links, are_owned_links, is_early};
-use ksi_aggtree::Item;
-use ksi_aggtree::chains::Node;
-use ksi_beside::{Place, Walk, along_calendar};
 use ksi_calendar::climb_calendar;
 use ksi_calendar::laws::one_first_missing;
 use ksi_imprint::{Compress, Imprint, NoMemory};
@@ -29,12 +22,10 @@ use ksi_journal::Journal;
 use ksi_journal::laws::calendar_is_covered;
 use ksi_publications::{Publications, Published};
 use ksi_signature::{AggregationChain, ChainView, Signature, SignatureView};
-use ksi_split::{ShapeFault, Side, second_of};
 use ksi_verifier::{
     CalendarPart, Refusal, Verdict, calendar_part, lent_calendar, verify, verify_lent,
 };
 use std::alloc::Global;
-use std::marker::PhantomData;
 
 /// The place of a signature's hash in a journal.
 ///
@@ -245,7 +236,7 @@ fn compare_roots<C: Compress, T: LaidChain>(
     let given = climb_calendar::<C>(calendar.input, calendar.links);
     let kept = root_to(journal, publication);
     if given == kept {
-        lay_beside::<C, T>(alloc, journal, chains, calendar, hash, second)
+        lay_journal::<C, T>(alloc, journal, chains, calendar, hash, second)
     } else {
         Ok(Audit::NotDecided(publication, given, kept))
     }
@@ -266,8 +257,8 @@ fn root_to<C: Compress>(journal: &Journal<C>, last: u64) -> Imprint
     }
 }
 
-/// Lays the links of an accepted signature, whose publication is decided, beside the kept trees.
-fn lay_beside<C: Compress, T: LaidChain>(
+/// Lays the links of an accepted signature, whose publication is decided, beside what a journal keeps.
+fn lay_journal<C: Compress, T: LaidChain>(
     alloc: Global,
     journal: &Journal<C>,
     chains: &[T],
@@ -285,73 +276,14 @@ fn lay_beside<C: Compress, T: LaidChain>(
         (laid_beside C.image journal.now (all_links (map T.plain chains.now)) hash.now second (calendar_of calendar.now))) }
     ensures short { IfOk result IsShort }
 {
-    let kept = CalendarTo {
-        calendar: journal.calendar(),
-        last: calendar.publication,
-    };
-    let input = calendar.input;
-    let above = along_calendar::<C, CalendarTo<'_, C>>(alloc, &kept, &input, calendar.links)?;
-    match above.clash() {
-        Some(clash) => Ok(Audit::Clash(clash)),
-        None => lay_below::<C, T>(alloc, journal.items(second), chains, hash, second),
-    }
-}
-
-/// Lays the links of aggregation chains beside the tree of items.
-fn lay_below<C: Compress, T: LaidChain>(
-    alloc: Global,
-    items: &[Item],
-    chains: &[T],
-    hash: &Imprint,
-    second: u64,
-) -> Result<Audit, NoMemory>
-    requires round { IsRound items.now }
-    requires count { length chains.now ≤ 16 }
-    requires levels { level_after 0 (all_links (map T.plain chains.now)) ≤ highest_level }
-    ensures audit { IfOk result (λ audit. audit ≡
-        compared C.image items.now (all_links (map T.plain chains.now)) hash.now second []) }
-    ensures memory { OnErr result (HasClash
-        (compared C.image items.now (all_links (map T.plain chains.now)) hash.now second [])) }
-    ensures short { IfOk result IsShort }
-{
-    let tree = ItemsOf::<C> {
+    let items = journal.items(second);
+    lay_beside::<C, T>(
+        alloc,
+        journal.calendar(),
         items,
-        hash: PhantomData,
-    };
-    let start = Node {
-        imprint: *hash,
-        level: 0,
-    };
-    let walk = along_chains::<C, ItemsOf<'_, C>, T>(alloc, &tree, &start, chains)?;
-    match walk {
-        Walk::Apart(clash) => Ok(Audit::Clash(clash)),
-        Walk::At(place) => Ok(Audit::Inside(second, place.way())),
-        Walk::Past(place) => {
-            let links = count_of(chains);
-            Ok(beneath(second, items.len() as u64, &place, links))
-        }
-    }
-}
-
-/// The item that a place belongs to, and the links that are left there.
-fn beneath(second: u64, items: u64, place: &Place, links: u64) -> Audit
-    requires few { items ≤ most_items }
-    requires some { length place.now ≤ links }
-    ensures { result ≡ answers.Beneath second (item_named items place.now) (links - length place.now) }
-{
-    let item = item_named(items, place.way().as_slice());
-    Audit::Beneath(second, item, links - u64::from(place.depth()))
-}
-
-/// The item whose leaf the sides lead to, or pass: below the leaf of a name stands the item that has it.
-fn item_named(items: u64, sides: &[Side]) -> u64
-    requires { items ≤ most_items }
-    ensures { result ≡ item_named items sides.now }
-{
-    let last = items.saturating_sub(1);
-    match second_of(last, sides) {
-        Ok(item) => item,
-        Err(ShapeFault::TooMany(place)) => second_of(last, &sides[..place]).unwrap_or(0),
-        Err(ShapeFault::TooFew(_)) => 0,
-    }
+        chains,
+        calendar,
+        hash,
+        second,
+    )
 }

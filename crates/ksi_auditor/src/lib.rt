@@ -32,9 +32,12 @@ mod deep;
 mod items;
 mod laid;
 pub mod laws;
+mod laying;
 mod links;
 mod reached;
 
 pub use answer::Audit;
 pub use auditing::{audit, audit_lent, audit_view};
 pub use ksi_imprint::{Clash, NoMemory};
+pub use laying::lay_view;
+pub use links::has_links;

@@ -1,11 +1,20 @@
-// What the parts of a signature keep: imprints are imprints, and times are below 2^63. None of these functions does anything.
+// What the parts of a signature keep: imprints are imprints, and times are below 2^63. None of these functions changes anything.
 ghost use Rattle.std.specs.Prelude.{◌<◌, ◌^◌, map, IfSome};
 ghost use Rattle.std.specs.List.{AllByRecursion};
 ghost use Rattle.ksi_signature.specs.Kept.{IsLink};
 ghost use Rattle.ksi_signature.specs.PartsSeen.{chain_seen};
+ghost use Rattle.ksi_signature.specs.Seen.{seen};
+ghost use Rattle.ksi_auditor.specs.Shown.{HasLinks};
 
 use ksi_aggtree::chains::{Link, Sibling};
-use ksi_signature::{AggregationChain, CalendarChain, ChainView};
+use ksi_signature::{AggregationChain, CalendarChain, ChainView, SignatureView};
+
+/// The links of a borrowed signature are such as are read. This reads them once more, and does nothing else.
+pub fn has_links(signature: &SignatureView<'_>)
+    ensures { HasLinks (seen signature.now) }
+{
+    are_links(signature.chains());
+}
 
 /// Of the links of lent chains.
 pub(crate) fn are_links(chains: &[ChainView<'_>])

@@ -61,7 +61,8 @@ fn kept_root<C: Compress>(calendar: &Calendar<C>, p: u64, second: u64) -> Imprin
     leaf(calendar, p, second)
 }
 
-fn leaf<C: Compress>(calendar: &Calendar<C>, p: u64, second: u64) -> Imprint
+/// The leaf of a second in the tree to a covered one: the zero imprint before the start, else the second's root.
+pub fn leaf<C: Compress>(calendar: &Calendar<C>, p: u64, second: u64) -> Imprint
     requires early { p < 2 ^ 63 }
     requires to { second ≤ p }
     requires covered { IsTrue (is_covered calendar.now p) }

@@ -16,5 +16,6 @@ mod kept;
 pub mod laws;
 
 pub use extending::extend;
+pub use kept::leaf;
 pub use ksi_extender::ExtendRefusal;
 pub use ksi_imprint::{NoMemory, Refused};

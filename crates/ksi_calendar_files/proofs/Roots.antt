@@ -1,5 +1,7 @@
 -- One root after the other.
 use Rattle.std.proofs.Common.{◌≡◌, ◌∙◌, ℕ, suc, ◌+◌, List, [], ◌∷◌, ◌++◌, take, drop, Result, Ok, Err, ap, sym}
+use Rattle.std.specs.List.{AllByRecursion}
+use Rattle.ksi_imprint.specs.Imprints.{IsImprint}
 use Rattle.ksi_imprint.specs.Reading.{imprint_at}
 use Rattle.ksi_imprint.specs.declared.fault.ImprintFault.{ImprintFault}
 use Rattle.ksi_calendar_files.specs.declared.fault.FileFault.TheVariants.{Imprint}
@@ -17,3 +19,7 @@ pub no_root : (roots : List (List ℕ)) (place left less : ℕ) (bytes : List �
 no_root roots place left less bytes fault left_is none =
     ap (λ (n : ℕ). roots_from roots place n bytes) left_is
     ∙ ap (λ (r : Result (List ℕ) ImprintFault). root_then place r (λ root. roots_from (roots ++ root ∷ []) (place + 33) less (drop 33 bytes))) none
+
+pub one_more : (roots : List (List ℕ)) (root : List ℕ) → AllByRecursion IsImprint roots → IsImprint root → AllByRecursion IsImprint (roots ++ root ∷ [])
+one_more [] root each is = (is, tt)
+one_more (first ∷ roots) root each is = (each.0, one_more roots root each.1 is)

@@ -17,22 +17,27 @@ pub struct CalendarFile {
 }
 
 impl Model for CalendarFile {
+    ghost use Rattle.std.specs.List.{AllByRecursion};
     ghost use Rattle.std.specs.Prelude.{length};
+    ghost use Rattle.ksi_imprint.specs.Imprints.{IsImprint};
     ghost use Rattle.ksi_calendar_files.specs.File.{Contents, IsBounded};
 
     ghost Value = { Contents };
 
     ghost view = { λ file. record { plan = file.plan; start = file.start; number = file.number; roots = file.roots.items } };
 
-    ghost invariant = { λ file. IsBounded file.start file.number (length file.roots.items) };
+    ghost invariant = { λ file. IsBounded file.start file.number (length file.roots.items) × AllByRecursion IsImprint file.roots.items };
 }
 
 impl CalendarFile {
+    ghost use Rattle.std.specs.List.{AllByRecursion};
+    ghost use Rattle.ksi_imprint.specs.Imprints.{IsImprint};
     ghost use Rattle.ksi_calendar_files.specs.File.{IsBounded};
 
     /// The file of its parts.
     pub(crate) fn new(plan: Imprint, start: u64, number: u64, roots: Vec<Imprint>) -> Self
-        requires { IsBounded start number (length roots.items) }
+        requires bounded { IsBounded start number (length roots.items) }
+        requires imprints { AllByRecursion IsImprint roots.items }
         ensures { result ≡ record { plan = plan; start = start; number = number; roots = roots.items } }
     {
         CalendarFile {
@@ -71,6 +76,13 @@ impl CalendarFile {
         ensures { result ≡ first_second self.now.start self.now.number }
     {
         self.start.max(FILE_SECONDS * self.number)
+    }
+
+    /// Each root is an imprint. This function does nothing.
+    pub fn has_imprints(&self)
+        ensures { AllByRecursion IsImprint self.now.roots }
+    {
+        let _ = &self.roots;
     }
 
     /// The roots, which are not copied.

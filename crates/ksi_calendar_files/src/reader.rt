@@ -1,4 +1,6 @@
+ghost use Rattle.std.specs.List.{AllByRecursion};
 ghost use Rattle.std.specs.Prelude.{◌≡◌, ◌≤◌, ◌*◌, ◌++◌, ◌∷◌, [], Ok, Err, IfOk, OnOk, length};
+ghost use Rattle.ksi_imprint.specs.Imprints.{IsImprint};
 ghost use Rattle.ksi_imprint.specs.Refused.{OrNoMemory, IfRefused};
 ghost use Rattle.ksi_calendar_files.specs.Reading.{file_at, roots_from};
 
@@ -42,6 +44,7 @@ fn read_roots(alloc: Global, count: usize, bytes: &[u8]) -> Result<Vec<Imprint>,
     requires size { length bytes.now ≡ 33 * count }
     ensures read { IfOk result (λ roots. roots_from [] 61 count bytes.now ≡ Ok roots.items) }
     ensures count { IfOk result (λ roots. length roots.items ≡ count) }
+    ensures imprints { IfOk result (λ roots. AllByRecursion IsImprint roots.items) }
     ensures fault { IfRefused result (λ fault. roots_from [] 61 count bytes.now ≡ Err fault) (Unit {0}) }
 {
     let mut roots = Vec::with_capacity(alloc, count)?;
@@ -58,8 +61,10 @@ fn read_roots(alloc: Global, count: usize, bytes: &[u8]) -> Result<Vec<Imprint>,
 
 /// Appends a root.
 fn keep(roots: &mut Vec<Imprint>, root: Imprint) -> Result<(), NoMemory>
-    ensures { OnOk result (roots.new.items ≡ roots.old.items ++ root ∷ []) }
+    ensures kept { OnOk result (roots.new.items ≡ roots.old.items ++ root ∷ []) }
+    ensures imprint { IsImprint root }
 {
+    let _bytes = root.bytes();
     roots.push(root)?;
     Ok(())
 }

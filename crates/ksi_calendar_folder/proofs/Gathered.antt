@@ -1,6 +1,8 @@
 -- The seconds of the files, step by step.
-use Rattle.std.proofs.Common.{◌≡◌, ◌∙◌, ℕ, suc, ◌-◌, ◌/◌, ◌≤◌, ◌<◌, Bool, if◌then◌else◌, List, [], ◌++◌, Result, Ok, Err, ap, sym}
+use Rattle.std.proofs.Common.{◌≡◌, ◌∙◌, ℕ, suc, ◌-◌, ◌/◌, ◌≤◌, ◌<◌, Bool, if◌then◌else◌, List, [], ◌∷◌, ◌++◌, Result, Ok, Err, ap, sym, subst}
+use Rattle.std.specs.List.{AllByRecursion}
 use Rattle.std.proofs.lemmas.Bool.{lt-ltb, le-ltb}
+use Rattle.ksi_imprint.specs.Imprints.{IsImprint}
 use Rattle.ksi_imprint.specs.declared.refused.Refused.{Refused}
 use Rattle.ksi_calendar.specs.Calendar.{Seconds, calendar_root}
 use Rattle.ksi_calendar_files.specs.File.{Contents}
@@ -33,6 +35,15 @@ module _ (last : Contents) (folder : Folder) (roots : List (List ℕ)) (number :
         gives_same (full_from last folder roots number left) (full_in last folder roots number >>= λ more. full_from last folder more (suc number) less) refusal
         (ap (λ (n : ℕ). full_from last folder roots number n) left_is)
         (gives_first (full_in last folder roots number) (λ more. full_from last folder more (suc number) less) refusal is)
+
+-- ---- roots are imprints
+
+pub no_roots : (roots : List (List ℕ)) → roots ≡ [] → AllByRecursion IsImprint roots
+no_roots roots none = subst (AllByRecursion IsImprint) (sym none) tt
+
+pub both_imprints : (roots more : List (List ℕ)) → AllByRecursion IsImprint roots → AllByRecursion IsImprint more → AllByRecursion IsImprint (roots ++ more)
+both_imprints [] more each others = others
+both_imprints (root ∷ roots) more each others = (each.0, both_imprints roots more each.1 others)
 
 -- ---- all files
 

@@ -1,4 +1,6 @@
+ghost use Rattle.std.specs.List.{AllByRecursion};
 ghost use Rattle.std.specs.Prelude.{◌≡◌, ◌≤◌, ◌+◌, ◌/◌, ◌^◌, [], IsTrue, IfOk, OnOk, length};
+ghost use Rattle.ksi_imprint.specs.Imprints.{IsImprint};
 ghost use Rattle.ksi_calendar.specs.Calendar.{is_covered};
 ghost use Rattle.ksi_calendar_files.specs.File.{first_second};
 ghost use Rattle.ksi_calendar_folder.specs.Folder.{all_full, from_start, full_in, folder_of, reaching, seconds_to, with_full, Adds, Gives};
@@ -27,6 +29,7 @@ pub fn gather<C: Compress, F: Files>(
     ensures told { IsTrue F.tells → Gives (seconds_to (folder_of (F.held files.old) folder.now) p) result }
     ensures stays { F.held files.new ≡ F.held files.old }
     ensures covered { IfOk result (λ seconds. IsTrue (is_covered seconds p)) }
+    ensures imprints { IfOk result (λ seconds. AllByRecursion IsImprint seconds.roots) }
 {
     match load_file(alloc, files, folder, p / FILE_SECONDS) {
         Ok(last) => gather_to(alloc, files, folder, &last, p),
@@ -46,6 +49,7 @@ fn gather_to<C: Compress, F: Files>(
     ensures told { IsTrue F.tells → Gives (from_start (folder_of (F.held files.old) folder.now) p last.now) result }
     ensures stays { F.held files.new ≡ F.held files.old }
     ensures covered { IfOk result (λ seconds. IsTrue (is_covered seconds p)) }
+    ensures imprints { IfOk result (λ seconds. AllByRecursion IsImprint seconds.roots) }
 {
     let start = last.start();
     if p < start {
@@ -55,6 +59,7 @@ fn gather_to<C: Compress, F: Files>(
     if let Err(refused) = add_full(alloc, files, folder, last, &mut calendar) {
         return Err(refused);
     }
+    last.has_imprints();
     calendar.append_all(last.roots())?;
     reaching(calendar, p)
 }
@@ -63,8 +68,10 @@ fn gather_to<C: Compress, F: Files>(
 fn reaching<C: Compress>(calendar: Calendar<C>, p: u64) -> Result<Calendar<C>, Refused<FolderFault>>
     requires from { calendar.start ≤ p }
     requires few { calendar.start + length calendar.roots ≤ 2 ^ 63 }
+    requires imprints { AllByRecursion IsImprint calendar.roots }
     ensures told { Gives (reaching p calendar) result }
     ensures covered { IfOk result (λ seconds. IsTrue (is_covered seconds p)) }
+    ensures imprints { IfOk result (λ seconds. AllByRecursion IsImprint seconds.roots) }
 {
     let end = calendar.start() + calendar.count();
     if end <= p {
@@ -88,6 +95,7 @@ fn add_full<C: Compress, F: Files>(
     ensures stays { F.held files.new ≡ F.held files.old }
     ensures start { calendar.new.start ≡ last.now.start }
     ensures end { OnOk result (calendar.new.start + length calendar.new.roots ≡ first_second last.now.start last.now.number) }
+    ensures imprints { AllByRecursion IsImprint calendar.new.roots }
 {
     let first = last.start() / FILE_SECONDS;
     'files: for number in first..last.number() {
@@ -109,10 +117,12 @@ fn add_file<C: Compress, F: Files>(
 ) -> Result<(), Refused<FolderFault>>
     requires start { calendar.old.start ≡ last.now.start }
     requires end { calendar.old.start + length calendar.old.roots ≡ first_second last.now.start number }
+    requires imprints { AllByRecursion IsImprint calendar.old.roots }
     ensures told { IsTrue F.tells → Adds (full_in last.now (folder_of (F.held files.old) folder.now) calendar.old.roots number) calendar.new result }
     ensures stays { F.held files.new ≡ F.held files.old }
     ensures start { calendar.new.start ≡ last.now.start }
     ensures end { OnOk result (calendar.new.start + length calendar.new.roots ≡ first_second last.now.start (number + 1)) }
+    ensures imprints { AllByRecursion IsImprint calendar.new.roots }
 {
     match load_file(alloc, files, folder, number) {
         Ok(file) => add_full_file(last, &file, calendar),
@@ -128,13 +138,16 @@ fn add_full_file<C: Compress>(
 ) -> Result<(), Refused<FolderFault>>
     requires start { calendar.old.start ≡ last.now.start }
     requires end { calendar.old.start + length calendar.old.roots ≡ first_second last.now.start file.now.number }
+    requires imprints { AllByRecursion IsImprint calendar.old.roots }
     ensures told { Adds (with_full last.now file.now calendar.old.roots) calendar.new result }
     ensures start { calendar.new.start ≡ last.now.start }
     ensures end { OnOk result (calendar.new.start + length calendar.new.roots ≡ first_second last.now.start (file.now.number + 1)) }
+    ensures imprints { AllByRecursion IsImprint calendar.new.roots }
 {
     if let Err(fault) = check_follows(last, file) {
         return Err(Refused::Fault(fault));
     }
+    file.has_imprints();
     calendar.append_all(file.roots())?;
     Ok(())
 }

@@ -32,7 +32,7 @@ pub(crate) fn report<F: Files, W: Write>(
     requires { p < 2 ^ 63 }
 {
     let calendar = gather::<Sha, F>(alloc, files, folder, p)?;
-    let list = load(alloc, files, list, LIST_LIMIT)?;
+    let list = load(alloc, files, 2, list, LIST_LIMIT)?;
     let mut names = 0u64;
     let mut done = 0u64;
     'names: for line in list.as_slice().split_inclusive(|byte| *byte == b'\n') {

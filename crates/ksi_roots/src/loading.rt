@@ -6,10 +6,11 @@ use ksi_imprint::Bytes;
 use ksi_ports::{Files, LoadRefusal};
 use std::alloc::Global;
 
-/// The bytes of the file of word 2, or of one that it names, which has at most `most` of them.
+/// The bytes of the file of word `n`, or of one that it names, which has at most `most` of them.
 pub(crate) fn load<F: Files>(
     alloc: Global,
     files: &mut F,
+    n: u64,
     name: &str,
     most: usize,
 ) -> Result<Bytes, Halt>
@@ -19,7 +20,7 @@ pub(crate) fn load<F: Files>(
     match files.load(alloc, name, most) {
         Ok(bytes) => Ok(bytes),
         Err(LoadRefusal::Failed) => Err(Halt::Fault),
-        Err(LoadRefusal::TooLong) => Err(Halt::Reported(too_long(2))),
+        Err(LoadRefusal::TooLong) => Err(Halt::Reported(too_long(n))),
         Err(LoadRefusal::NoMemory) => Err(Halt::NoMemory),
     }
 }

@@ -1,13 +1,16 @@
-//! `ksi_roots COMMAND FOLDER WORD ..`: roots, consistency proofs and extensions over a folder of calendar files, without a core.
+//! `ksi_roots COMMAND FOLDER WORD ..`: roots, consistency proofs, extensions and audits over a folder of calendar files, without a
+//! core.
 //!
-//! The commands are `root FOLDER P`, `front FOLDER P1 P2 OUT`, `extend FOLDER SIGNATURE P OUT` and
-//! `extend-all FOLDER LIST P OUTFOLDER`. Each prints at most one line, and `extend-all` one more for each name of its list
-//! (docs/FORMATS.md, "Over calendar files"). What is computed is exactly as `ksi_calendar_folder` and `ksi_calendar_extender` say, and
-//! what is saved of a signature is its extension (`save_extended`). The printed lines are tested.
+//! The commands are `root FOLDER P`, `front FOLDER P1 P2 OUT`, `extend FOLDER SIGNATURE P OUT`,
+//! `extend-all FOLDER LIST P OUTFOLDER` and `audit FOLDER SIGNATURE HASH SECOND ITEMS`. Each prints at most one line, and
+//! `extend-all` one more for each name of its list (docs/FORMATS.md, "Over calendar files"). What is computed is exactly as
+//! `ksi_calendar_folder`, `ksi_calendar_extender` and `ksi_calendar_auditor` say, and what is saved of a signature is its
+//! extension (`save_extended`). The printed lines are tested.
 #![tactic(auto)]
 
 ghost use Rattle.std.specs.Prelude.{◌<◌, ◌^◌, IfOk};
 
+mod auditing;
 mod extending;
 mod extending_all;
 mod fronts;
@@ -18,8 +21,9 @@ mod roots;
 mod saving;
 
 use crate::report::{Halt, Report, bad_word, no_words};
+use ksi_imprint::Imprint;
 use ksi_ports::{HostFiles, HostSink, Sink};
-use ksi_words::time;
+use ksi_words::{hash, time};
 use std::alloc::AllocError;
 use std::env;
 use std::io::{ErrorKind, Write};
@@ -104,7 +108,28 @@ fn perform<W: Write>(
                 extended.as_str(),
             )
         }
+        [name, folder, signature, digest, time, items] if name.as_str() == "audit" => {
+            let hash = imprint(3, digest)?;
+            let second = second(4, time)?;
+            auditing::report(
+                alloc,
+                &mut files,
+                folder.as_str(),
+                signature.as_str(),
+                &hash,
+                second,
+                items.as_str(),
+            )
+        }
         _ => Ok(no_words()),
+    }
+}
+
+/// The imprint of the hash that word `n` after the command's name encodes.
+fn imprint(n: u64, word: &String) -> Result<Imprint, Halt> {
+    match hash(word.as_str()) {
+        Some(imprint) => Ok(imprint),
+        None => Err(Halt::Reported(bad_word(n))),
     }
 }
 

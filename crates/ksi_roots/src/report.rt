@@ -2,10 +2,11 @@
 ghost use Rattle.std.specs.Prelude.{◌≤◌, length};
 ghost use Rattle.ksi_lines.specs.Printed.{room};
 
+use ksi_calendar_auditor::AuditRefusal;
 use ksi_calendar_files::FileFault;
 use ksi_calendar_folder::FolderFault;
 use ksi_imprint::{NoMemory, Refused};
-use ksi_lines::Word::{Number, Text};
+use ksi_lines::Word::{Digest, Number, Text};
 use ksi_lines::{Line, Word, before_start_line, print, undecided_line};
 use ksi_ports::SaveRefusal;
 
@@ -27,6 +28,10 @@ impl Report {
 
     pub(crate) fn malformed(line: Line) -> Report {
         Report { status: 3, line }
+    }
+
+    pub(crate) fn clash(line: Line) -> Report {
+        Report { status: 6, line }
     }
 }
 
@@ -57,6 +62,15 @@ impl From<Refused<FolderFault>> for Halt {
     fn from(refused: Refused<FolderFault>) -> Self {
         match refused {
             Refused::Fault(fault) => Halt::Reported(folder_report(fault)),
+            Refused::NoMemory => Halt::NoMemory,
+        }
+    }
+}
+
+impl From<Refused<AuditRefusal>> for Halt {
+    fn from(refused: Refused<AuditRefusal>) -> Self {
+        match refused {
+            Refused::Fault(refusal) => Halt::Reported(not_audited(refusal)),
             Refused::NoMemory => Halt::NoMemory,
         }
     }
@@ -127,6 +141,31 @@ fn folder_report(fault: FolderFault) -> Report {
         }
         FolderFault::BeforeStart(p) => Report::refused(before_start_line(p)),
         FolderFault::Undecided(second) => Report::refused(undecided_line(second)),
+    }
+}
+
+/// Why the items of a second are not those of a signature.
+fn not_audited(refusal: AuditRefusal) -> Report {
+    match refusal {
+        AuditRefusal::OtherSecond(second) => Report::refused(print(
+            Text("other"),
+            &[Text("second")],
+            &[Number(second)],
+        )),
+        AuditRefusal::NoItems(second) => Report::refused(print(
+            Text("no"),
+            &[Text("items")],
+            &[Number(second)],
+        )),
+        AuditRefusal::OtherItems {
+            second,
+            root,
+            given,
+        } => Report::refused(print(
+            Text("other"),
+            &[Text("items")],
+            &[Number(second), Digest(&root), Digest(&given)],
+        )),
     }
 }
 

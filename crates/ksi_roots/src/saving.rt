@@ -16,7 +16,7 @@ use ksi_signature::view;
 use std::alloc::Global;
 
 /// The most bytes that a signature file may have.
-const SIGNATURE_LIMIT: usize = 65_539;
+pub(crate) const SIGNATURE_LIMIT: usize = 65_539;
 
 /// Saves a signature extended to `p`, and returns the line of its second. If it is refused, no file changes.
 pub(crate) fn save_extended<F: Files>(
@@ -32,7 +32,7 @@ pub(crate) fn save_extended<F: Files>(
     ensures { IsTrue F.tells → Leaves (IsSaved imprint_of calendar.now p name.now out.now (F.held files.old) (F.held files.new))
         (F.held files.old) (F.held files.new) result }
 {
-    let bytes = load(alloc, files, name, SIGNATURE_LIMIT)?;
+    let bytes = load(alloc, files, 2, name, SIGNATURE_LIMIT)?;
     match extend(alloc, calendar, bytes.as_slice(), p) {
         Ok(text) => {
             match files.save(alloc, out, text.as_slice()) {

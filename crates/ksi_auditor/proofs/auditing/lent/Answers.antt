@@ -6,7 +6,7 @@ use Rattle.ksi_signature.specs.Seen.{seen}
 use Rattle.ksi_signature.specs.Values.{Calendar}
 use Rattle.ksi_verifier.specs.Chains.{plain_chains}
 use Rattle.ksi_verifier.specs.Leading.{all_links}
-use Rattle.ksi_verifier.specs.Lent.{lent_chain, calendar_of}
+use Rattle.ksi_verifier.specs.Lent.{lent_chain}
 use Rattle.ksi_auditor.specs.Audit.{links_of}
 use Rattle.ksi_auditor.specs.Shown.{HasClash}
 use Rattle.ksi_auditor.proofs.Chaining.{ok_goes_on, err_has}

@@ -1,7 +1,9 @@
-use Rattle.std.proofs.Common.{◌≡◌, ◌∙◌, ◌+◌, ◌*◌, ◌-◌, ℕ, List, take, drop, Ok, Err, ap, sym, arith, length, length-append, ◌∷◌, []}
+use Rattle.std.proofs.Common.{◌≡◌, ◌∙◌, ◌+◌, ◌*◌, ◌-◌, ℕ, List, take, drop, Ok, Err, ap, sym, subst, arith, length, length-append, ◌∷◌, []}
 use Rattle.std.proofs.lemmas.List.{drop-drop}
 use Rattle.ksi_imprint.specs.Reading.{imprint_at}
-use Rattle.ksi_calendar_files.proofs.Roots.{next_root, no_root}
+use Rattle.std.specs.List.{AllByRecursion}
+use Rattle.ksi_imprint.specs.Imprints.{IsImprint}
+use Rattle.ksi_calendar_files.proofs.Roots.{next_root, no_root, one_more}
 use Rattle.ksi_calendar_files.proofs.reader.read_roots.Goals as goal
 
 pub returns-in-Err-clause-fault : goal.returns-in-Err-clause-fault
@@ -21,6 +23,7 @@ reading-preserved c =
     record {
       so_far = c.reading.invariant.so_far
           ∙ next_root c.reading.roots.items c.keep.new.roots.items (61 + 33 * done) (61 + 33 * (done + 1)) (c.args.count - done) (c.args.count - (done + 1)) rest (drop (33 * (done + 1)) c.args.bytes.now) root
-          (omega arith) (omega arith) c.in_ok-keep-in-Ok.ensures (ap (λ (n : ℕ). drop n c.args.bytes.now) place ∙ sym (drop-drop 33 (33 * done) c.args.bytes.now)) one;
-      count = omega (arith, ap length c.in_ok-keep-in-Ok.ensures, length-append c.reading.roots.items (root ∷ []), c.reading.invariant.count);
+          (omega arith) (omega arith) c.in_ok-keep-in-Ok.ensures.kept (ap (λ (n : ℕ). drop n c.args.bytes.now) place ∙ sym (drop-drop 33 (33 * done) c.args.bytes.now)) one;
+      count = omega (arith, ap length c.in_ok-keep-in-Ok.ensures.kept, length-append c.reading.roots.items (root ∷ []), c.reading.invariant.count);
+      imprints = subst (AllByRecursion IsImprint) (sym c.in_ok-keep-in-Ok.ensures.kept) (one_more c.reading.roots.items root c.reading.invariant.imprints c.in_ok-keep-in-Ok.ensures.imprint);
     }

@@ -3,7 +3,7 @@ use Rattle.ksi_ports.specs.Stored.{Held}
 use Rattle.ksi_calendar.specs.Calendar.{Seconds}
 use Rattle.ksi_calendar_folder.specs.Folder.{Adds, all_full, folder_of, full_from, full_in}
 use Rattle.ksi_calendar_folder.proofs.Faults.{adds_of, gives_same, of_adds}
-use Rattle.ksi_calendar_folder.proofs.Gathered.{begun, step, stop}
+use Rattle.ksi_calendar_folder.proofs.Gathered.{begun, no_roots, step, stop}
 use Rattle.ksi_calendar_folder.proofs.gathering.add_full.Goals as goal
 
 pub files-init : goal.files-init
@@ -17,6 +17,7 @@ files-init g c =
       stays = refl;
       start = start;
       end = omega (arith, start, none, c.start-first.ensures.value);
+      imprints = no_roots c.args.calendar.now.roots roots;
     }
 
 pub returns-in-Err-clause-told : goal.returns-in-Err-clause-told
@@ -53,4 +54,5 @@ files-preserved g c =
       stays = c.in_default.ensures.stays ∙ c.files.invariant.stays;
       start = c.in_default.ensures.start;
       end = c.in_default.ensures.end;
+      imprints = c.in_default.ensures.imprints;
     }

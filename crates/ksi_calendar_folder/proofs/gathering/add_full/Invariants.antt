@@ -1,5 +1,7 @@
 use Rattle.std.proofs.Common.{◌≡◌, ◌+◌, ◌-◌, length}
+use Rattle.std.specs.List.{AllByRecursion}
 use Rattle.std.specs.Prelude.{IsTrue}
+use Rattle.ksi_imprint.specs.Imprints.{IsImprint}
 use Rattle.ksi_calendar_files.specs.File.{first_second}
 use Rattle.ksi_calendar_folder.specs.Folder.{all_full, full_from, folder_of}
 use Rattle.ksi_calendar_folder.proofs.gathering.add_full.Given as goal
@@ -11,4 +13,5 @@ invariant-files g l = record {
   stays : g.F.Files.held l.files ≡ g.F.Files.held l.fn.files;
   start : l.calendar.start ≡ l.last.start;
   end : l.calendar.start + length l.calendar.roots ≡ first_second l.last.start l.number;
+  imprints : AllByRecursion IsImprint l.calendar.roots;
 }

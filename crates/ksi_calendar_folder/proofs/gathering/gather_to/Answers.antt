@@ -1,7 +1,10 @@
-use Rattle.std.proofs.Common.{◌≡◌, ◌∙◌, ◌++◌, arith}
+use Rattle.std.proofs.Common.{◌≡◌, ◌∙◌, ◌++◌, ap, sym, subst, arith}
+use Rattle.std.specs.List.{AllByRecursion}
+use Rattle.ksi_imprint.specs.Imprints.{IsImprint}
+use Rattle.ksi_calendar.specs.Calendar.{Seconds}
 use Rattle.ksi_calendar_folder.specs.Folder.{all_full, folder_of, from_start, reaching, seconds_of}
 use Rattle.ksi_calendar_folder.proofs.Faults.{gives_all, of_adds}
-use Rattle.ksi_calendar_folder.proofs.Gathered.{before, no_full, reached}
+use Rattle.ksi_calendar_folder.proofs.Gathered.{before, both_imprints, no_full, reached}
 use Rattle.ksi_calendar_folder.proofs.gathering.gather_to.Goals as goal
 
 pub returns-then-p-start-clause-told : goal.returns-then-p-start-clause-told
@@ -22,3 +25,8 @@ returns-clause-told g c = λ tells.
     let made : seconds ≡ seconds_of last roots = c.in_ok-append_all.ensures.added ∙ (λ i. record { start = c.in_default.ensures.start i; roots = roots ++ c.roots.ensures i }) in
     gives_all (from_start folder c.args.p last) (reaching c.args.p seconds) c.reaching.result
     (reached folder c.args.p last (omega arith) roots seconds (c.in_default.ensures.told tells) made) c.reaching.ensures.told
+
+pub reaching-requires-clause-imprints : goal.reaching-requires-clause-imprints
+reaching-requires-clause-imprints g c =
+    subst (AllByRecursion IsImprint) (sym (ap (λ (s : Seconds). s.roots) c.in_ok-append_all.ensures.added))
+    (both_imprints c.add_full.new.calendar.roots c.roots.result.now c.in_default.ensures.imprints (subst (AllByRecursion IsImprint) (sym c.roots.ensures) c.has_imprints.ensures))

@@ -1,4 +1,4 @@
-use Rattle.std.proofs.Common.{◌≡◌, ◌≤◌, List, sym, subst, ap, ◌∙◌}
+use Rattle.std.proofs.Common.{◌≤◌, List, sym, subst, ap, ◌∙◌}
 use Rattle.std.specs.List.{AllByRecursion}
 use Rattle.ksi_aggtree.specs.Climbing.{level_after}
 use Rattle.ksi_aggtree.specs.Owned.{plain_links}

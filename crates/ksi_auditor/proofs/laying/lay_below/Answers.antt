@@ -5,7 +5,7 @@ use Rattle.ksi_auditor.specs.declared.answer.Audit.TheVariants as answers
 use Rattle.ksi_verifier.specs.Leading.{all_links}
 use Rattle.ksi_auditor.proofs.Chaining.{err_told}
 use Rattle.ksi_auditor.proofs.Outcomes.{apart_below, clash_below, inside_at, beneath_at}
-use Rattle.ksi_auditor.proofs.auditing.lay_below.Goals as goal
+use Rattle.ksi_auditor.proofs.laying.lay_below.Goals as goal
 
 pub returns-in_err-walk-clause-memory : goal.returns-in_err-walk-clause-memory
 returns-in_err-walk-clause-memory g c =

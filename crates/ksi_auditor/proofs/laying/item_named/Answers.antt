@@ -1,6 +1,6 @@
 use Rattle.std.proofs.Common.{sym, arith}
 use Rattle.std.proofs.lemmas.List.{length-take-le}
-use Rattle.ksi_auditor.proofs.auditing.item_named.Goals as goal
+use Rattle.ksi_auditor.proofs.laying.item_named.Goals as goal
 
 pub slice_bounds-second_of-end : goal.slice_bounds-second_of-end
 slice_bounds-second_of-end c =
