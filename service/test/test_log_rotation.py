@@ -149,7 +149,7 @@ class WritersTest(Rotated):
         while sent < least or not holds():
             send(sent)
             sent += 1
-            time.sleep(0.005)
+            time.sleep(0.02)
         return sent
 
     def numbers(self, name):
@@ -175,7 +175,7 @@ action(type="omfile" file="{self.path("syslog")}")
             file.write(f'''daemon off; pid {self.path("pid")}; error_log {self.path("error.log")};
 {"user root;" if os.geteuid() == 0 else ""}
 events {{ }}
-http {{ access_log {self.path("access.log")}; server {{ listen unix:{self.path("socket")}; location / {{ return 204; }} }} }}
+http {{ keepalive_requests 1000000; keepalive_timeout 3600; access_log {self.path("access.log")}; server {{ listen unix:{self.path("socket")}; location / {{ return 204; }} }} }}
 ''')
         self.begin(NGINX, "-p", self.room, "-c", self.path("nginx.conf"))
         client = self.connected(socket.SOCK_STREAM)
