@@ -12,7 +12,7 @@ from unittest import mock
 import stand_in_ksi
 import stands
 from calendar_tree import Tree
-from ksi_service import bundles, command, files, plans
+from ksi_service import bundles, command, files, plans, roots
 from ksi_service.anchors import Anchors
 from ksi_service.bundles import NotBundle, NotVerified
 from ksi_service.calendar_files import PlanName
@@ -27,7 +27,7 @@ from ksi_service.mirror_service import MirrorHouse
 from ksi_service.newest import line_of
 from ksi_service.proved import Refused
 from ksi_service.source import AGREES, FAULTY, FORK
-from mirrored import Mirrored, Service
+from mirrored import Mirrored, Service, run_here
 from served import Served
 from stand_in import signature_of
 
@@ -335,9 +335,11 @@ class FivePlansTest(Served):
             for name, script in (("ksi_roots", "stand_in_roots.py"), ("ksi", "stand_in_ksi.py")):
                 stands.make_program(programs, name, script)
             self.outside["KSI_BIN"] = programs
-            named = mock.patch.dict(os.environ, KSI_BIN=programs)
-            named.start()
-            self.addCleanup(named.stop)
+            # what this process asks them, it asks without a process for each
+            quick = [mock.patch(f"ksi_service.{name}.ksi", verify_here) for name in ("extension", "bundles")]
+            for it in (mock.patch.dict(os.environ, KSI_BIN=programs), mock.patch.object(roots, "run", run_here), *quick):
+                it.start()
+                self.addCleanup(it.stop)
 
     def signed(self, number):
         """Signs a file, and returns its name."""
@@ -355,12 +357,12 @@ class FivePlansTest(Served):
         self.fail(files.content_of(os.path.join(self.folder, "log"))[-3000:].decode())
 
     def test_signatures_of_the_first_plan_lead_to_the_last_print(self):
-        self.start("--cores", "1", "--aggregators", "1", "--succeed-after", str(SECONDS))
+        self.start("--cores", "1", "--aggregators", "1", "--publish-every", "4", "--succeed-after", str(SECONDS))
         names = [self.signed(number) for number in (1, 2)]
         self.wait(lambda: len(plans.chain_of(self.folder)) >= PLANS)
         # no further plan follows, but for the one to which the cores may have retired
         self.kill()
-        self.start("--succeed-after", "0")
+        self.start("--publish-every", "4", "--succeed-after", "0")
         self.wait(lambda: "retired" not in self.status() and self.ask("/v1/book")[0] == 200)
         self.see(names)
         self.see_mirror()
