@@ -60,7 +60,7 @@ class OneToThreeTest(OverHttps):
         with self.clients():
             self.signed_after(0)
             self.assertIn("--alone NAME says which", run(self, "plan", self.at("other"), *words, "--of", self.at("A"), status=1))
-            run(self, "plan", self.at("next"), *words, "--of", self.at("A"), "--alone", "A", "--in", str(AHEAD))
+            run(self, "plan", self.at("next"), *words, "--of", self.at("A"), "--alone", "A", "--in", str(AHEAD + 15))
             run(self, "certificates", self.at("next"))
             start = plans.content_in(self.at("next")).plan.start
             self.assertIn("was started with --machines", run(self, "succeed", self.at("next"), "--folder", self.at("A"), status=3))
