@@ -104,6 +104,8 @@ class Service:
             return json.dumps({"calendars": [{"plan": self.plan.digest, "start": self.plan.start, "next": self.next}]}).encode()
         if path == "/publications":
             return publications_file(self.publications) if self.publications else 404
+        if path == "/v1/book":
+            return 404
         number = int(path.rsplit("/", 1)[1])
         first, last = self.plan.first_of(number), min(self.next, (number + 1) * SECONDS)
         if not path.startswith(f"/v1/calendar/{self.plan.digest}/") or number < self.plan.first_file() or first >= last:
