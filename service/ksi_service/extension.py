@@ -76,7 +76,7 @@ def asking_chain(second, last):
     if not roots:
         return None
     chain = yield f"chain {second} {last}"
-    if not chain[0].startswith("published "):
+    if not chain or not chain[0].startswith("published "):
         return None
     return Chain(roots[0][1], chain[0].split(" ")[1], [tuple(row.split(" ")) for row in chain[1:]])
 

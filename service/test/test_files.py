@@ -158,7 +158,7 @@ class ExtensionTest(unittest.TestCase):
     def test_what_is_not_extended(self):
         held, chain = {5: self.parts.root}, [f"published {TWOS}"]
         for roots, chain, says, reason in (
-                ({}, [], "", "lacks a second"), ({5: ONES}, [], "", "another root"), ({5: self.parts.root}, ["not held"], "", "lacks a second"),
+                ({}, [], "", "lacks a second"), ({5: ONES}, chain, "", "another root"), ({5: self.parts.root}, ["not held"], "", "lacks a second"),
                 (held, chain, Refused(1, "refused V14 9"), "V14"), (held, chain, "accepted 6", "accepted 6")):
             with self.assertRaisesRegex(extension.NotExtended, reason):
                 self.extend(roots, chain, says)

@@ -15,6 +15,7 @@ class ThreeMachinesTest(unittest.TestCase):
         asked, signed = (int(word) for word in printed.split("\n\n")[-1].split(" signed")[0].split(" requests, "))
         self.assertEqual(asked, signed)
         self.assertGreater(asked, 100)
+        self.assertRegex(printed, r"one signature was extended to second \d+: the same bytes at each door|# not extended, not built")
 
 
 if __name__ == "__main__":
