@@ -41,7 +41,7 @@ IS_ODD_ROOT = $(strip $(foreach it,$(ODD_ROOT),$(findstring $(it),$(DESTDIR))))
 REFUSED = $(if $(IS_ODD),$(error PREFIX has a space or one of $(ODD), or does not begin with /: units and ksi.pc cannot contain it))$(if $(IS_ODD_ROOT),$(error DESTDIR has one of $(ODD_ROOT), which the shell would misread))
 # the replacement of @PREFIX@, for sed
 FILLED = s|@PREFIX@|$(subst &,\&,$(PREFIX))|; s|@LIBDIR@|$(subst &,\&,$(LIBDIR))|
-UNITS = ksi-service.service ksi-mirror.service ksi-log@.service ksi-log@.timer ksi-log-journal.service ksi-log-journal.timer
+UNITS = ksi-service.service ksi-mirror.service ksi-check.service ksi-check.timer ksi-log@.service ksi-log@.timer ksi-log-journal.service ksi-log-journal.timer
 
 all: programs library pages
 

@@ -101,6 +101,10 @@ class Joined:
 
     def add(self, step: Step) -> None:
         """Takes the next step. Raises Differs if its line was not sent before."""
+        self.see(step)
+        self.keep(self.steps, step)
+
+    def see(self, step: Step) -> None:
         words = (step.line or "").split(" ")
         if is_from_elsewhere(step):
             self.others += 1
@@ -112,9 +116,19 @@ class Joined:
             raise Differs(f"step {self.steps}: the record does not say which block sent {step.node} this line: {step.line}")
         if words[0] == "request" and not self.said.is_new(step.node, words[1]):
             raise Differs(f"step {self.steps}: another request of {step.node} has the number {words[1]}")
-        self.said.add(self.steps, step.block)
+
+    def keep(self, number: int, step: Step) -> None:
+        """Keeps the messages of a step, by its number in the record."""
+        self.said.add(number, step.block)
         self.steps += 1
         self.unsaid += step.line is not None and step.block is None
+
+    def add_at(self, number: int, step: Step, older, is_compared: bool) -> None:
+        """Takes the step of this number, of a part of a record. Its messages are kept. Its line is compared only if the part has all that came
+        before; `older` looks for the line if it was sent before the part."""
+        if is_compared and not (step.message is not None and not is_from_elsewhere(step) and older.add(step)):
+            self.see(step)
+        self.keep(number, step)
 
     def counts(self) -> Counts:
         return Counts(self.steps, self.unsaid, self.lines, self.others)

@@ -5,7 +5,7 @@ import os
 
 from . import backup as backing
 from . import check as checking
-from . import command_asking
+from . import checked, command_asking
 from . import digests as digesting
 from . import doctor, files, hours
 from . import forget as forgetting
@@ -34,10 +34,25 @@ def check(words):
         print(f"{checking.many(count, 'line')} between machines were sent before they were taken, in one order")
         return
     folders = words.folder or [DEFAULT]
+    if words.hour is not None:
+        check_hour(folders, words)
+        return
     with all_at_rest(folders):
         checking.check(folders, words.samples, by_node=words.by_node)
         if words.replay:
             replaying.replay(folders, words.replay, words.samples)
+
+
+def check_hour(folders, words):
+    """Checks one closed hour, or each new one. A service may run over the folder."""
+    if len(folders) > 1:
+        raise Failed("--hour is for one folder: check each machine's by itself")
+    if not os.path.exists(os.path.join(folders[0], "plan")):
+        raise Failed(f"{folders[0]} has no plan: no service ran over it")
+    if words.hour == NEW:
+        checked.check_new(folders[0], words.samples)
+    else:
+        checked.check(folders[0], words.hour, words.samples)
 
 
 def digests(words):
@@ -92,11 +107,19 @@ def forget(words):
         forgetting.forget(words.folder, words.before)
 
 
+NEW = "new"
+
+
+def hour_of(text):
+    return NEW if text == NEW else positive(text)
+
+
 def add_commands(commands):
     one = add_folders(commands, "check", check, "compare the record of a stopped service, or the records of all its machines, with the proved model")
     one.add_argument("--digests", nargs="+", metavar="FILE", help="compare files that `digests` saved, one of each machine, in place of folders")
     one.add_argument("--samples", type=positive, default=50, metavar="NUMBER", help="extend, verify and audit this many signatures (default 50)")
     one.add_argument("--by-node", action="store_true", help="compare the log of each node with that node alone, which needs the memory of one node; also for one of several machines")
+    one.add_argument("--hour", type=hour_of, metavar="NUMBER", help="check one closed hour by itself, by the number of its file in the record, or each one since the last check (`new`); the service may run")
     one.add_argument("--replay", metavar="OUT", help="also replay the run by ksi, and save its schedule and journal in the folder OUT")
     one = add(commands, "forget", forget, "let the nodes of a stopped service forget old seconds", "folder")
     one.add_argument("--before", type=natural, default=3600, metavar="SECONDS", help="forget only seconds that are at least this old (default 3600)")

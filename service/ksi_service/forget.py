@@ -13,13 +13,14 @@ new one has another name, which nothing reads and the next time removes. From th
 the node reports by `ready` which it found: the old file, or the new one, which is synced before it takes the old one's name. A start
 syncs the folder before a node adds to the file."""
 import asyncio
+import logging
 import os
 import shutil
 import subprocess
 import tempfile
 import time
 
-from . import files
+from . import cuts, files
 from .errors import NeedsOperator, ServiceError
 from .marks import end_of
 from .plan import Plan
@@ -28,6 +29,8 @@ from .proved import Refused
 from .record import Record
 from .storing import LostFacts
 from .watched import see_at_rest
+
+log = logging.getLogger(__name__)
 
 LOOK_SECONDS = 0.2
 """How often is looked whether `ksi_serve --forget` has ended."""
@@ -62,6 +65,7 @@ class Left:
     """The compacted file of a node that forgets the seconds before a given one. It has another name until it replaces the old file."""
 
     def __init__(self, folder, name, before, meanwhile=lambda: None):
+        self.folder, self.name, self.before = folder, name, before
         self.path = os.path.join(folder, f"{name}.facts")
         self.made = os.path.join(folder, f"{name}.forgetting")
         files.remove(self.made)
@@ -91,8 +95,13 @@ class Left:
         """The entry of the record, with the marks of both files."""
         return ["forgot", name, self.found, self.left, mark, self.mark]
 
-    def keep(self):
-        """Puts it in the old one's place. Not before the record, or who else counts facts, has both counts."""
+    def keep(self, place):
+        """Puts it in the old one's place. Not before the record, or who else counts facts, has both counts. The old one is kept under
+        another name, by the place of the entry in the record, for the check of the hour; if that fails the hour is not checked by itself."""
+        try:
+            cuts.keep(self.folder, self.name, place, self.before)
+        except OSError as reason:
+            log.warning("the file of %s from before it forgot is not kept: %s", self.name, reason.strerror)
         files.keep(self.made, self.path)
 
     def drop(self):
@@ -142,9 +151,10 @@ async def forget_one(folder, name, before, record, say):
             say(f"{name} has nothing to forget")
             return
         sizes = os.path.getsize(new.made), os.path.getsize(new.path)
+        place = record.place
         record.add(new.entry(name, state.mark_at(new.found)))
         await record.flush()
-        new.keep()
+        new.keep(place)
         say(f"{name} keeps {new.left} of {new.found} facts, {sizes[0]} of {sizes[1]} bytes")
     finally:
         new.drop()
@@ -160,9 +170,10 @@ async def forget_between(folder, node, before):
         if not state.may_have(new.found):
             raise NotForgotten("its process ended within a line")
         if new.is_less():
+            place = node.record.place
             node.record.add(new.entry(node.name, state.mark_at(new.found)))
             await on_disk(node.record)
-            await in_thread(new.keep)
+            await in_thread(new.keep, place)
         return new.left, new.found
     finally:
         new.drop()

@@ -4,7 +4,7 @@ import logging
 import os
 import time
 
-from . import earlier, extension, files, roots, subtrees
+from . import checked, earlier, extension, files, roots, subtrees
 from .admission import MOST_WAITING
 from .anchors import Anchors
 from .asking import Questions
@@ -144,7 +144,7 @@ class Service:
             "seconds_decided": host.seconds_decided, "last_second": record.state.second,
             "ballots": sum(it.ballots for it in host.drivers),
             "steps": record.state.steps, "record_bytes": record.bytes, "record_syncs": record.syncs,
-            "rounds_forgotten": self.resting.rounds, "core_facts_forgotten": self.resting.core_facts, **record.lost(),
+            "rounds_forgotten": self.resting.rounds, "core_facts_forgotten": self.resting.core_facts, **record.lost(), **checked.counters(host.folder),
             "publications": len(self.publications.published), "last_publication": self.publications.last() or 0,
             "lookup_complete": self.indexing.is_complete, "calendar_next": self.calendar.calendar.next, **self.anchors.counters(),
             "plan_seconds_left": seconds_left(host.last_second, host.now()), "next_publication": self.publishing.due(), "free_bytes": free_bytes({"data": host.folder}),

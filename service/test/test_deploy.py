@@ -14,7 +14,7 @@ from ksi_service.fetching import Server
 from ksi_service.source import STATES, Source
 
 DEPLOY = os.path.join(os.path.dirname(stands.HERE), "deploy")
-UNIT, MIRROR = "ksi-service.service", "ksi-mirror.service"
+UNIT, MIRROR, CHECK = "ksi-service.service", "ksi-mirror.service", "ksi-check.service"
 
 
 def content_of(name):
@@ -33,7 +33,7 @@ class DeployTest(unittest.TestCase):
     @unittest.skipUnless(shutil.which("systemd-analyze"), "systemd-analyze is not here, so the unit is not looked at")
     def test_the_unit_is_as_systemd_takes_it_and_closed(self):
         """By its own measure, which calls 3.0 of 10 and less closed: a program that was broken into reaches little else."""
-        for unit in (UNIT, MIRROR):
+        for unit in (UNIT, MIRROR, CHECK):
             with self.subTest(unit), tempfile.TemporaryDirectory() as room:
                 path = os.path.join(room, unit)
                 files.write(path, content_of(unit).replace("@PREFIX@/bin/ksi-service", "/bin/true").encode())
@@ -47,6 +47,12 @@ class DeployTest(unittest.TestCase):
         words = parser_of().parse_args(shlex.split(given))
         self.assertEqual((words.command, words.url, words.folder, words.also), ("mirror", ["http://a:8080", "http://b:8080"], "/var/lib/ksi-mirror", ["http://c:8081"]))
         self.assertIn("StateDirectory=ksi-mirror\n", content_of(MIRROR))
+
+    def test_the_unit_of_a_check_runs_the_command_and_has_its_timer(self):
+        command = re.search(r"(?m)^ExecStart=@PREFIX@/bin/ksi-service (.*)$", content_of(CHECK))[1]
+        words = parser_of().parse_args(shlex.split(command))
+        self.assertEqual((words.command, words.folder, words.hour), ("check", ["/var/lib/ksi/data"], "new"))
+        self.assertIn("[Timer]\n", content_of(CHECK.replace(".service", ".timer")))
 
     def test_alerts_are_over_metrics_that_are_there(self):
         try:
