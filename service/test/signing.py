@@ -90,7 +90,7 @@ class Signing(doored.House):
     def last(self):
         return START + len(self.roots) - 1
 
-    async def sign(self, imprints, is_gone):
+    async def sign(self, imprints, is_gone, name=None):
         self.requests.append(len(imprints))
         if self.pause:
             await asyncio.sleep(self.pause)

@@ -17,7 +17,7 @@ from ksi_service.answers import Refusal
 from ksi_service.finding import Finding
 from ksi_service.index import Index, Place
 from ksi_service.indexing import Found, Indexing, NotIndexed
-from mirrored import signature_of
+from stand_in import signature_of
 from several import Several
 from served import REAL, Served, imprint
 
