@@ -177,7 +177,7 @@ class RefusedTest(Hosted):
 
     def test_plans_that_are_none(self):
         text = Plan(3, 100, ("c0", "c1")).text()
-        for plan, machines, reason in ((text + "# more\n", "", "other lines"), ("cores 3\n", "", "not the plan"), (text, "machine A A:1 c0\n", "each node of the plan exactly once"), (text, "odd\n", "is not a line")):
+        for plan, machines, reason in ((text + "# more\n", "", "other lines"), ("cores 3\n", "", "not the plan"), (text, "machine A A:1 c0\n", "each core of the plan exactly once"), (text, "odd\n", "is not a line")):
             with self.assertRaisesRegex(NotNext, reason):
                 Content.of(plan, machines)
 
