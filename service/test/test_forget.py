@@ -6,7 +6,7 @@ import unittest
 from unittest import mock
 
 import stands
-from ksi_service import check, files, forget
+from ksi_service import check, cuts, files, forget
 from ksi_service.folders import Folders
 from ksi_service.record import NodeState, State, last_state
 from ksi_service.storing import LostFacts
@@ -98,27 +98,27 @@ class ForgetTest(Served):
         self.assertEqual((found.signatures, found.facts, found.extended, found.audited), (130, last_count(self.folder), 10, 10))
 
     def test_a_crash_at_any_place_leaves_a_folder_that_starts(self):
-        """Behind the new file, behind the entry, and behind the new name."""
+        """After the new file, after the entry, after the old file was kept, and after the new name."""
         class Crash(Exception):
             pass
 
-        for at, (owner, name) in enumerate([(forget.Record, "add"), (files, "keep"), (files, "sync_folder")]):
+        for at, (owner, name) in enumerate([(forget.Record, "add"), (cuts, "keep"), (files, "keep"), (files, "sync_folder")]):
             self.start("--cores", "1")
             self.sign(range(at * 10, at * 10 + 10))
             self.rest()
             before = self.sizes()
-            with mock.patch.object(owner, name, side_effect=Crash), mock.patch.object(files, "remove", removes_once()):
+            with mock.patch.object(cuts, "keep"), mock.patch.object(owner, name, side_effect=Crash), mock.patch.object(files, "remove", removes_once()):
                 self.assertRaises(Crash, self.forget)
-            self.assertEqual(self.sizes()[0] < before[0], at == 2)
-            self.assertEqual(os.path.exists(os.path.join(self.folder, "a0.forgetting")), at < 2)
+            self.assertEqual(self.sizes()[0] < before[0], at == 3)
+            self.assertEqual(os.path.exists(os.path.join(self.folder, "a0.forgetting")), at < 3)
             self.assertEqual(check.facts_there(Folders(self.folder)), last_count(self.folder))
         self.start("--cores", "1")
-        self.sign(range(30, 40))
+        self.sign(range(40, 50))
         self.rest()
         before = self.sizes()
         self.forget()
         self.assertTrue(all(new < old for new, old in zip(self.sizes(), before)), (before, self.sizes()))
-        self.assertEqual(self.checked().signatures, 40)
+        self.assertEqual(self.checked().signatures, 50)
 
 
 if __name__ == "__main__":
