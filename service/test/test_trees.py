@@ -6,7 +6,6 @@ import io
 import json
 import os
 import random
-import signal
 import subprocess
 import sys
 import time
@@ -134,7 +133,7 @@ class TreeTest(signing.Signed):
                 # after some signatures more, so that a slow machine kills in the middle too
                 while ran.poll() is None and len(self.all_files()) <= signed + chance.randrange(2, 40) and time.monotonic() < end:
                     time.sleep(chance.random() / 40)
-                os.kill(ran.pid, signal.SIGKILL)
+                ran.kill()
             for path in self.all_files():
                 if path.endswith(b".ksig"):
                     with open(path, "rb") as file:
