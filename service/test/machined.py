@@ -133,7 +133,7 @@ class Machined(unittest.TestCase):
                 self.failed.append(str(reason))
 
     def signed_since(self, began, count):
-        """Waits until so many requests that began after this time are signed."""
+        """Waits until this many requests are signed that began after this time."""
         self.wait(lambda: sum(start >= began for start, _ in self.signed) >= count)
 
     def published(self, name):

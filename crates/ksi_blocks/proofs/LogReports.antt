@@ -18,7 +18,7 @@ abbrev given : Report → Outcome Report
 given report = Ok report
 
 module _ (law : LogLaw) (seed log slice : List ℕ) (whole : slice ≡ log) (told : (seed : List ℕ) → (lines : List (List ℕ)) → Report) where
-  -- the block of the log's lines: what is told of it is reported
+  -- the report on the block of the log's lines is the result
   pub told_of : (block : Masked) (result : Result Report Halt) → block ≡ masked seed (lines_of slice) → MakeBlock (lines_of slice)
       → Gives (given (told block.seed block.lines)) result → Gives (given (of_log (log_at log) (told seed))) result
   told_of block result same makes is =

@@ -138,8 +138,8 @@ pub extern "C" fn ksi_second(signature: &[u8], second: &mut u64) -> u32
     put_second(signature, second)
 }
 
-/// Step `number` of a signature, counted from 0 at the document's hash: a link with both parts and their join, for who
-/// draws them. 0 where it is there, 1 where there is none, and 3 where the bytes are no signature.
+/// Step `number` of a signature, counted from 0 at the document's hash: a link with both parts and their join, to be
+/// shown. Returns 0 if there is such a step, 1 if there is none, and 3 if the bytes are no signature.
 #[unsafe(no_mangle)]
 pub extern "C" fn ksi_step(signature: &[u8], number: usize, step: &mut KsiStep) -> u32
     ensures status { result ≡ step_status (signature_at signature.now) number }

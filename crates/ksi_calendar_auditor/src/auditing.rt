@@ -28,7 +28,7 @@ use std::alloc::Global;
 ///
 /// # Errors
 /// The first of these, for an accepted signature: it is of another second; the journal does not keep the second; the journal's
-/// root of the second is not the calendar's. `NoMemory` only if the answer would be a clash.
+/// root of the second is not the calendar's. `NoMemory` if memory runs out.
 pub fn audit<C: Compress>(
     alloc: Global,
     calendar: &Calendar<C>,

@@ -75,11 +75,11 @@ impl<'a, C: Compress> Block<'a, C> {
         }
     }
 
-    /// Adds a line behind the others.
+    /// Adds a line after the others.
     ///
     /// # Errors
-    /// `Full` exactly where there are 65,536 lines; else `LineTooLong` with the number of bytes exactly where these are more
-    /// than 8,000; or `NoMemory`: all is as it was.
+    /// `Full` exactly if there are 65,536 lines; otherwise `LineTooLong` with the number of bytes, exactly if these are more
+    /// than 8,000; or `NoMemory`. After an error all is as before.
     pub fn push(&mut self, line: &'a [u8]) -> Result<(), Refused<PushRefusal>>
         ensures added { OnOk result (self.new ≡ with_line line.now self.old) }
         ensures full { (result ≡ Err (refused.Fault PushRefusal.Full)) ↔ (length self.old.lines ≡ most_lines) }

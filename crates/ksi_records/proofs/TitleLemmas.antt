@@ -13,7 +13,7 @@ use Rattle.ksi_records.specs.Verdicts.{AreEntries, shown, title}
 use Rattle.ksi_records.proofs.VerdictLemmas.{Found}
 
 module _ (image : List ℕ → List ℕ) (plan : PlanState) where
-  -- what is told of the verdict on its entries
+  -- the text printed for the verdict on its entries
   abbrev pub On : Version → (known out new : Option Text) → Retraced → Type 0
   On version known out new verdict = IfSome known (λ text. (entries : List Entry) × AreEntries image plan version text entries verdict × Appends out new (shown image plan entries))
 

@@ -13,8 +13,8 @@ use ksi_imprint::{Compress, Imprint};
 use ksi_signature::ChainView;
 use ksi_split::Side;
 
-/// Step `number` of aggregation chains and the calendar chain above them, counted from 0, the lowest first; none where
-/// there are no more links, or where a level passes 255.
+/// Step `number` of aggregation chains and the calendar chain above them, counted from 0, the lowest first; none if
+/// there are no more links, or if a level passes 255.
 pub fn find_step<'a, C: Compress>(
     chains: &[ChainView<'a>],
     calendar: &Option<CalendarPart<'a>>,
